@@ -1,0 +1,147 @@
+//! `compare`: generated scripts through the Rust and through a command that should say
+//! the same; the first difference is cut down and shown.
+
+use std::fs;
+use std::process::ExitCode;
+
+use oracle::command::{self, Failure};
+use oracle::coverage::Coverage;
+use oracle::difference::{Difference, judged};
+use oracle::generator::{Wish, script};
+use oracle::line::{Line, text};
+use oracle::options::Options;
+use oracle::progress::Progress;
+use oracle::session::Session;
+use oracle::shrink::shrink;
+
+const USAGE: &str = "usage: compare [--seeds N] [--first S] [--lines M] [--without-lending]
+               [--keep FILE] COMMAND...
+  COMMAND reads a script on its standard input and writes what the calls yield.
+  --keep FILE: the script that shows a difference is written there.";
+
+struct Arguments {
+    seeds: u64,
+    wish: Wish,
+    keep: Option<String>,
+    command: Vec<String>,
+}
+
+fn main() -> ExitCode {
+    match arguments().and_then(|arguments| compared(&arguments)) {
+        Ok(true) => ExitCode::SUCCESS,
+        Ok(false) => ExitCode::from(1),
+        Err(error) => {
+            eprintln!("compare: {error}");
+            ExitCode::from(2)
+        }
+    }
+}
+
+fn arguments() -> Result<Arguments, String> {
+    let mut options = Options::of_program();
+    let mut seeds = 200;
+    let mut keep = None;
+    let mut wish = Wish {
+        seed: 0,
+        lines: 500,
+        without_lending: false,
+    };
+    while let Some(option) = options.option() {
+        match option.as_str() {
+            "--seeds" => seeds = options.number(&option)?,
+            "--first" => wish.seed = options.number(&option)?,
+            "--lines" => wish.lines = options.number(&option)? as usize,
+            "--without-lending" => wish.without_lending = true,
+            "--keep" => keep = Some(options.word(&option)?),
+            _ => return Err(format!("no option {option}\n{USAGE}")),
+        }
+    }
+    let command = options.rest();
+    if command.is_empty() {
+        return Err(format!("a command is needed\n{USAGE}"));
+    }
+    Ok(Arguments {
+        seeds,
+        wish,
+        keep,
+        command,
+    })
+}
+
+/// Whether the command says the same as the Rust to all scripts.
+fn compared(arguments: &Arguments) -> Result<bool, String> {
+    let mut session = Session::new(false);
+    let mut coverage = Coverage::new(arguments.wish.without_lending);
+    let mut progress = Progress::new("compare");
+    let seeds = arguments.seeds;
+    for done in 0..seeds {
+        let seed = arguments.wish.seed.wrapping_add(done);
+        let wish = Wish {
+            seed,
+            ..arguments.wish
+        };
+        let note = |before: &_, line: &_, outcome: Option<&_>| coverage.note(before, line, outcome);
+        let lines = script(&mut session, wish, note);
+        let lines = lines.map_err(|stop| format!("seed {seed}: {stop:?}"))?;
+        let judge = judged(&mut session, &text(&lines))
+            .ok_or_else(|| format!("seed {seed}: the script leaves the domain"))?;
+        let ran = command::run(&arguments.command, &text(&lines), false)
+            .map_err(|failure| failed(arguments, seed, &lines, &failure))?;
+        if let Some(difference) = Difference::between(&judge, &ran) {
+            eprintln!("compare: seed {seed} shows a difference; cutting the script down");
+            report(arguments, &mut session, lines, difference)?;
+            return Ok(false);
+        }
+        progress.say(|| format!("{} of {seeds} seeds", done + 1));
+    }
+    println!("no difference: {seeds} seeds, {}", coverage.summary());
+    Ok(true)
+}
+
+/// Says why there is nothing to compare, and keeps the script.
+fn failed(arguments: &Arguments, seed: u64, lines: &[Line], failure: &Failure) -> String {
+    match keep(arguments, lines) {
+        Ok(()) => format!("seed {seed}: {} {failure}", arguments.command[0]),
+        Err(error) => error,
+    }
+}
+
+fn keep(arguments: &Arguments, lines: &[Line]) -> Result<(), String> {
+    match &arguments.keep {
+        None => Ok(()),
+        Some(file) => fs::write(file, text(lines)).map_err(|error| format!("{file}: {error}")),
+    }
+}
+
+/// Cuts the script down and shows it with both outputs.
+fn report(
+    arguments: &Arguments,
+    session: &mut Session,
+    lines: Vec<Line>,
+    mut difference: Difference,
+) -> Result<(), String> {
+    let whole = lines.len();
+    let mut progress = Progress::new("compare");
+    let smallest = shrink(lines, |lines| {
+        progress.say(|| format!("cutting, at {} lines", lines.len()));
+        let found = tried(arguments, session, lines);
+        let shows = found.is_some();
+        if let Some(found) = found {
+            difference = found;
+        }
+        shows
+    });
+    keep(arguments, &smallest)?;
+    let count = smallest.len();
+    println!("a difference; the script, cut down from {whole} lines to {count}:");
+    print!("{}{difference}", text(&smallest));
+    Ok(())
+}
+
+/// The difference that a script shows, if it stays inside the domain.
+fn tried(arguments: &Arguments, session: &mut Session, lines: &[Line]) -> Option<Difference> {
+    let script = text(lines);
+    let judge = judged(session, &script)?;
+    let ran = command::run(&arguments.command, &script, true).ok()?;
+    Difference::between(&judge, &ran)
+}
