@@ -1,0 +1,39 @@
+-- Laws of the pool: what a transfer writes and what a completion copies leave it as long as it was, and what a copy into a lent part of
+-- it makes of the whole. Assumes nothing.
+use mathlib.Core.Path.{_≡_, refl}
+use mathlib.Core.Bool.{Bool, true, false}
+use mathlib.Core.List.{List, _++_, append-assoc}
+use Prim.Native.Nat.{ℕ, _+_, _≤_}
+use native.Mathlib.Omega.{arith}
+use lib.ListN.{length, take, drop, length-append, length-take, length-drop, length-set, take-append-drop}
+use lib.Seq.{take-length, drop-append-le, drop-drop}
+use borrow.Rule.Slice.PartMut.{midOf, putMid}
+use Rattle.rf233.specs.Choice.{pick}
+use Rattle.rf233.specs.Pool.{startOf, written, copied}
+use Rattle.rf233.specs.declared.transfer.Transfer.{Transfer}
+
+-- a choice between lists has the chosen one's length, and one between equals is that
+pick-length : (v : Bool) (p q : List ℕ) → length (pick v p q) ≡ pick v (length p) (length q)
+unfolding pick
+pick-length true p q = refl
+pick-length false p q = refl
+
+pick-same : (v : Bool) (n : ℕ) → pick v n n ≡ n
+unfolding pick
+pick-same true n = refl
+pick-same false n = refl
+
+-- a transfer's command bytes
+pub written-length : (t : Transfer) (p : List ℕ) → length (written t p) ≡ length p
+unfolding written
+written-length t p = simp (pick-length, length-set, pick-same)
+
+-- arrived bytes that fit
+pub copied-length : (b : ℕ) (xs p : List ℕ) → startOf b + length xs ≤ length p → length (copied b xs p) ≡ length p
+copied-length b xs p h = simp (length-append, length-take, length-drop) (omega arith)
+
+-- xs copied into the beginning of the k elements from a on
+pub part-copied : (a k : ℕ) (xs p : List ℕ) → length xs ≤ length (midOf a k p)
+    → putMid a k p (take (length xs) xs ++ drop (length xs) (midOf a k p)) ≡ take a p ++ (xs ++ drop (a + length xs) p)
+part-copied a k xs p h =
+    rw (take-length, append-assoc, ← drop-append-le (length xs) (midOf a k p) (drop k (drop a p)) h, take-append-drop, drop-drop)

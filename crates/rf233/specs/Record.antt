@@ -1,0 +1,144 @@
+-- The driver's record of its buffers, and what refusal 12 describes (document 01, "Who can cause which refusal"), clause by clause.
+use Prim.Native.Nat.{ℕ, zero, suc, _+_}
+use mathlib.Core.Bool.{Bool, true, false, not, _&&_, _||_, cond}
+use mathlib.Core.List.{List, [], _∷_}
+use lib.Dec.{eqb, leb, ltb}
+use lib.ListN.{length}
+use Rattle.rf233.specs.Choice.{oneOf}
+use Rattle.rf233.specs.Completion.{has}
+use Rattle.rf233.specs.Pool.{poolLength}
+use Rattle.rf233.specs.State.{stateNo}
+use Rattle.rf233.specs.declared.driver.Buffers.{Buffers}
+use Rattle.rf233.specs.declared.driver.Driver.{Driver}
+use Rattle.rf233.specs.declared.driver.Slot.{Slot}
+use Rattle.rf233.specs.declared.driver.Slot.the-variants.{Empty, Held}
+use Rattle.rf233.specs.declared.driver.Under.{Under}
+use Rattle.rf233.specs.declared.driver.Under.the-variants.{Idle, Register, FrameRead, FrameWrite}
+
+-- the place has buffer b
+abbrev pub slotHas : Slot → ℕ → Bool
+slotHas Empty b = false
+slotHas (Held c l) b = eqb c b
+
+-- the transfer under way has buffer b: of a register transfer 16 and 17, of a frame transfer 18 and the client's
+abbrev pub underHas : Under → ℕ → Bool
+underHas Idle b = false
+underHas Register b = eqb 16 b || eqb 17 b
+underHas (FrameRead c l) b = eqb 18 b || eqb c b
+underHas (FrameWrite c l) b = eqb 18 b || eqb c b
+
+-- b is an own buffer, in its own place
+abbrev pub ownHas : Buffers → ℕ → Bool
+ownHas r b = (r .«spi_tx» && eqb 16 b) || ((r .«spi_rx» && eqb 17 b) || (r .«spi_buf» && eqb 18 b))
+
+-- 1 where the test holds
+abbrev pub one : Bool → ℕ
+one true = 1
+one false = 0
+
+-- at how many places the record has buffer b: its own, transmit, receive, the transfer under way
+unfoldable pub countOf : Buffers → ℕ → ℕ
+countOf r b = one (ownHas r b) + one (slotHas (r .«tx_buf») b) + one (slotHas (r .«rx_buf») b) + one (underHas (r .under) b)
+
+-- the driver has buffer b
+abbrev pub recordHas : Buffers → ℕ → Bool
+recordHas r b = ltb 0 (countOf r b)
+
+-- some buffer below n is recorded twice
+abbrev pub twiceBelow : Buffers → ℕ → Bool
+twiceBelow r zero = false
+twiceBelow r (suc n) = twiceBelow r n || ltb 1 (countOf r n)
+
+-- clause: a buffer of 0 to 18 recorded in two places
+abbrev pub recordedTwice : Buffers → Bool
+recordedTwice r = twiceBelow r 19
+
+-- clause: an own buffer recorded in none
+abbrev pub ownNowhere : Buffers → Bool
+ownNowhere r = not (recordHas r 16) || (not (recordHas r 17) || not (recordHas r 18))
+
+-- clause: a client's place that names a buffer above 15
+abbrev pub slotAbove : Slot → Bool
+slotAbove Empty = false
+slotAbove (Held c l) = ltb 15 c
+
+-- the client's side of a frame transfer, as a place
+abbrev pub underSlot : Under → Slot
+underSlot Idle = Empty
+underSlot Register = Empty
+underSlot (FrameRead c l) = Held c l
+underSlot (FrameWrite c l) = Held c l
+
+abbrev pub clientAbove : Buffers → Bool
+clientAbove r = slotAbove (r .«tx_buf») || (slotAbove (r .«rx_buf») || slotAbove (underSlot (r .under)))
+
+-- the transmit buffer, held or under way, and the receive buffer likewise
+abbrev pub sending : Under → Slot
+sending Idle = Empty
+sending Register = Empty
+sending (FrameRead c l) = Empty
+sending (FrameWrite c l) = Held c l
+
+abbrev pub receiving : Under → Slot
+receiving Idle = Empty
+receiving Register = Empty
+receiving (FrameRead c l) = Held c l
+receiving (FrameWrite c l) = Empty
+
+-- a value from low to high
+abbrev pub within : ℕ → ℕ → ℕ → Bool
+within low high n = leb low n && leb n high
+
+-- clause: a length out of bounds. Of spi_buf 129 to 160, and its present length 2 to that; while a transmit buffer is held or under way,
+-- n 2 to 127 and that buffer's n + 3 to 160; of a receive buffer held or under way 129 to 160. A frame transfer's own two lengths are
+-- these very values, so nothing more is to be asked of them.
+abbrev pub txLengthBad : Slot → ℕ → Bool
+txLengthBad Empty n = false
+txLengthBad (Held c l) n = not (within 2 127 n && within (n + 3) 160 l)
+
+abbrev pub rxLengthBad : Slot → Bool
+rxLengthBad Empty = false
+rxLengthBad (Held c l) = not (within 129 160 l)
+
+abbrev pub lengthBad : Buffers → Bool
+lengthBad r =
+    not (within 129 160 (r .«spi_buf_whole»))
+    || (not (within 2 (r .«spi_buf_whole») (r .«spi_buf_len»))
+    || (txLengthBad (r .«tx_buf») (r .«tx_len»)
+    || (txLengthBad (sending (r .under)) (r .«tx_len») || (rxLengthBad (r .«rx_buf») || rxLengthBad (receiving (r .under))))))
+
+-- clause: a transmit (receive) buffer held while another is under way in a frame write (frame read)
+abbrev pub heldBesides : Buffers → Bool
+heldBesides r = (has (r .«tx_buf») && has (sending (r .under))) || (has (r .«rx_buf») && has (receiving (r .under)))
+
+-- no frame transfer, a frame read, a frame write
+abbrev pub frameNo : Under → ℕ
+frameNo Idle = 0
+frameNo Register = 0
+frameNo (FrameRead c l) = 1
+frameNo (FrameWrite c l) = 2
+
+-- the frame transfer that a state names: 34 a frame write, 63 and 65 a frame read
+abbrev pub stateFrame : ℕ → ℕ
+stateFrame n = cond (eqb n 34) 2 (cond (oneOf (63 ∷ 65 ∷ []) n) 1 0)
+
+-- clause: a frame transfer that is not of the kind the state names, or with interrupt handling set; or such a state without its transfer
+abbrev pub frameUnfit : Under → ℕ → Bool → Bool
+frameUnfit u n handling = not (eqb (frameNo u) (stateFrame n)) || (ltb 0 (frameNo u) && handling)
+
+-- clause: 33 or 43 without a transmit buffer held; 62, 64 or 68 without a receive buffer held
+abbrev pub bufferMissing : Buffers → ℕ → Bool
+bufferMissing r n =
+    (oneOf (33 ∷ 43 ∷ []) n && not (has (r .«tx_buf»))) || (oneOf (62 ∷ 64 ∷ 68 ∷ []) n && not (has (r .«rx_buf»)))
+
+-- a driver value that refusal 12 describes
+unfoldable pub described : Driver → Bool
+described d =
+    let r = d .buffers in
+    let n = stateNo (d .state) in
+    recordedTwice r || (ownNowhere r || (clientAbove r || (lengthBad r || (heldBesides r
+    || (frameUnfit (r .under) n (d .flags .«interrupt_handling») || bufferMissing r n)))))
+
+-- refusal 12: the pool is not 3,040 bytes long, or the driver value is described
+abbrev pub poolFault : Driver → List ℕ → Bool
+poolFault d p = not (eqb (length p) poolLength) || described d

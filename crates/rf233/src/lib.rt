@@ -1,0 +1,26 @@
+// The AT86RF233 driver: states, settings, buffers, transfers and steps, by value, over a lent pool.
+pub mod action;
+pub mod answer;
+pub mod arrived;
+pub mod case;
+pub mod commit;
+pub mod completion;
+pub mod config;
+pub mod create;
+pub mod driver;
+pub mod guard;
+pub mod interrupt;
+pub mod kernel;
+pub mod listeners;
+pub mod pool;
+pub mod power;
+pub mod ready;
+pub mod receive;
+pub mod record;
+pub mod sleep;
+pub mod start;
+pub mod startup;
+pub mod state;
+pub mod step;
+pub mod transfer;
+pub mod transmit;

@@ -1,0 +1,263 @@
+// The driver's record of its buffers: where a buffer is, and what refusal 12 describes, clause by clause.
+use crate::driver::Buffers;
+use crate::driver::Driver;
+use crate::driver::Slot;
+use crate::driver::Under;
+use crate::interrupt::is_held;
+use crate::state::state_number;
+ghost use mathlib.Core.Path.{_≡_};
+ghost use Prim.Native.Nat.{_≤_};
+ghost use Rattle.rf233.specs.Record.{slotHas, underHas, ownHas, one, countOf, recordHas, recordedTwice, ownNowhere, slotAbove, underSlot, clientAbove, sending, receiving, txLengthBad, rxLengthBad, lengthBad, heldBesides, frameNo, stateFrame, frameUnfit, bufferMissing, described};
+
+// The place has the buffer.
+fn slot_has(slot: Slot, buffer: u8) -> bool
+    ensures { λ r. ⌜ r ≡ slotHas slot buffer ⌝ }
+{
+    match slot {
+        Slot::Empty => false,
+        Slot::Held(c, _) => c == buffer,
+    }
+}
+
+// The transfer under way has the buffer.
+fn under_has(under: Under, buffer: u8) -> bool
+    ensures { λ r. ⌜ r ≡ underHas under buffer ⌝ }
+{
+    match under {
+        Under::Idle => false,
+        Under::Register => (16 == buffer) | (17 == buffer),
+        Under::FrameRead(c, _) => (18 == buffer) | (c == buffer),
+        Under::FrameWrite(c, _) => (18 == buffer) | (c == buffer),
+    }
+}
+
+// It is an own buffer, in its own place.
+fn own_has(b: Buffers, buffer: u8) -> bool
+    ensures { λ r. ⌜ r ≡ ownHas b buffer ⌝ }
+{
+    (b.spi_tx & (16 == buffer)) | ((b.spi_rx & (17 == buffer)) | (b.spi_buf & (18 == buffer)))
+}
+
+// 1 where the test holds.
+fn one_if(test: bool) -> u8
+    ensures { λ r. ⌜ (r ≡ one test) × (r ≤ 1) ⌝ }
+{
+    if test { 1 } else { 0 }
+}
+
+// At how many places the record has the buffer.
+pub fn count_of(b: Buffers, buffer: u8) -> u8
+    ensures { λ r. ⌜ r ≡ countOf b buffer ⌝ }
+{
+    let tx_buf = b.tx_buf;
+    let rx_buf = b.rx_buf;
+    let under = b.under;
+    let own = one_if(own_has(b, buffer));
+    let tx = one_if(slot_has(tx_buf, buffer));
+    let rx = one_if(slot_has(rx_buf, buffer));
+    let going = one_if(under_has(under, buffer));
+    own + tx + rx + going
+}
+
+// The driver has the buffer.
+pub fn record_has(b: Buffers, buffer: u8) -> bool
+    ensures { λ r. ⌜ r ≡ recordHas b buffer ⌝ }
+{
+    0 < count_of(b, buffer)
+}
+
+// Clause: a buffer of 0 to 18 recorded in two places.
+fn recorded_twice(b: Buffers) -> bool
+    ensures { λ r. ⌜ r ≡ recordedTwice b ⌝ }
+{
+    let mut twice = false;
+    let mut k: u8 = 0;
+    while k < 19 {
+        twice = twice | (1 < count_of(b, k));
+        k += 1;
+    }
+    twice
+}
+
+// Clause: an own buffer recorded in none.
+fn own_nowhere(b: Buffers) -> bool
+    ensures { λ r. ⌜ r ≡ ownNowhere b ⌝ }
+{
+    let tx = record_has(b, 16);
+    let rx = record_has(b, 17);
+    let buf = record_has(b, 18);
+    !tx | (!rx | !buf)
+}
+
+// The client's side of a frame transfer, as a place.
+fn under_slot(under: Under) -> Slot
+    ensures { λ r. ⌜ r ≡ underSlot under ⌝ }
+{
+    match under {
+        Under::Idle => Slot::Empty,
+        Under::Register => Slot::Empty,
+        Under::FrameRead(c, l) => Slot::Held(c, l),
+        Under::FrameWrite(c, l) => Slot::Held(c, l),
+    }
+}
+
+// The transmit buffer under way, as a place.
+pub fn sending_slot(under: Under) -> Slot
+    ensures { λ r. ⌜ r ≡ sending under ⌝ }
+{
+    match under {
+        Under::Idle => Slot::Empty,
+        Under::Register => Slot::Empty,
+        Under::FrameRead(_, _) => Slot::Empty,
+        Under::FrameWrite(c, l) => Slot::Held(c, l),
+    }
+}
+
+// The receive buffer under way, as a place.
+pub fn receiving_slot(under: Under) -> Slot
+    ensures { λ r. ⌜ r ≡ receiving under ⌝ }
+{
+    match under {
+        Under::Idle => Slot::Empty,
+        Under::Register => Slot::Empty,
+        Under::FrameRead(c, l) => Slot::Held(c, l),
+        Under::FrameWrite(_, _) => Slot::Empty,
+    }
+}
+
+// The place names a buffer that is no client's.
+fn slot_above(slot: Slot) -> bool
+    ensures { λ r. ⌜ r ≡ slotAbove slot ⌝ }
+{
+    match slot {
+        Slot::Empty => false,
+        Slot::Held(c, _) => 15 < c,
+    }
+}
+
+// Clause: a client's place that names a buffer above 15.
+fn client_above(b: Buffers) -> bool
+    ensures { λ r. ⌜ r ≡ clientAbove b ⌝ }
+{
+    let tx_buf = b.tx_buf;
+    let rx_buf = b.rx_buf;
+    let under = b.under;
+    let tx = slot_above(tx_buf);
+    let rx = slot_above(rx_buf);
+    let going = slot_above(under_slot(under));
+    tx | (rx | going)
+}
+
+// A transmit buffer, held or under way, with a length or an n out of bounds.
+fn tx_length_bad(slot: Slot, n: u8) -> bool
+    ensures { λ r. ⌜ r ≡ txLengthBad slot n ⌝ }
+{
+    match slot {
+        Slot::Empty => false,
+        Slot::Held(_, l) => !(((2 <= n) & (n <= 127)) & ((n as u16 + 3 <= l as u16) & (l <= 160))),
+    }
+}
+
+// A receive buffer, held or under way, with a length out of bounds.
+fn rx_length_bad(slot: Slot) -> bool
+    ensures { λ r. ⌜ r ≡ rxLengthBad slot ⌝ }
+{
+    match slot {
+        Slot::Empty => false,
+        Slot::Held(_, l) => !((129 <= l) & (l <= 160)),
+    }
+}
+
+// Clause: a length out of bounds.
+fn length_bad(b: Buffers) -> bool
+    ensures { λ r. ⌜ r ≡ lengthBad b ⌝ }
+{
+    let tx_buf = b.tx_buf;
+    let rx_buf = b.rx_buf;
+    let under = b.under;
+    let whole = (129 <= b.spi_buf_whole) & (b.spi_buf_whole <= 160);
+    let present = (2 <= b.spi_buf_len) & (b.spi_buf_len <= b.spi_buf_whole);
+    let tx = tx_length_bad(tx_buf, b.tx_len);
+    let tx_going = tx_length_bad(sending_slot(under), b.tx_len);
+    let rx = rx_length_bad(rx_buf);
+    let rx_going = rx_length_bad(receiving_slot(under));
+    !whole | (!present | (tx | (tx_going | (rx | rx_going))))
+}
+
+// Clause: a buffer held while another of its kind is under way.
+fn held_besides(b: Buffers) -> bool
+    ensures { λ r. ⌜ r ≡ heldBesides b ⌝ }
+{
+    let tx_buf = b.tx_buf;
+    let rx_buf = b.rx_buf;
+    let under = b.under;
+    let tx = is_held(tx_buf);
+    let rx = is_held(rx_buf);
+    let sent = is_held(sending_slot(under));
+    let received = is_held(receiving_slot(under));
+    (tx & sent) | (rx & received)
+}
+
+// No frame transfer, a frame read, a frame write.
+fn frame_number(under: Under) -> u8
+    ensures { λ r. ⌜ r ≡ frameNo under ⌝ }
+{
+    match under {
+        Under::Idle => 0,
+        Under::Register => 0,
+        Under::FrameRead(_, _) => 1,
+        Under::FrameWrite(_, _) => 2,
+    }
+}
+
+// The frame transfer that a state names.
+fn state_frame(n: u8) -> u8
+    ensures { λ r. ⌜ r ≡ stateFrame n ⌝ }
+{
+    match n {
+        34 => 2,
+        63 | 65 => 1,
+        _ => 0,
+    }
+}
+
+// Clause: a frame transfer that does not fit the state, or the state without its transfer.
+fn frame_unfit(under: Under, n: u8, handling: bool) -> bool
+    ensures { λ r. ⌜ r ≡ frameUnfit under n handling ⌝ }
+{
+    let frame = frame_number(under);
+    let named = state_frame(n);
+    !(frame == named) | ((0 < frame) & handling)
+}
+
+// Clause: a state without the buffer that it takes.
+fn buffer_missing(b: Buffers, n: u8) -> bool
+    ensures { λ r. ⌜ r ≡ bufferMissing b n ⌝ }
+{
+    let tx_buf = b.tx_buf;
+    let rx_buf = b.rx_buf;
+    let tx = is_held(tx_buf);
+    let rx = is_held(rx_buf);
+    let sends = (n == 33) | (n == 43);
+    let receives = (n == 62) | ((n == 64) | (n == 68));
+    (sends & !tx) | (receives & !rx)
+}
+
+// Whether refusal 12 describes the driver value.
+pub fn is_described(d: Driver) -> bool
+    ensures { λ r. ⌜ r ≡ described d ⌝ }
+{
+    let b = d.buffers;
+    let under = b.under;
+    let flags = d.flags;
+    let s = d.state;
+    let n = state_number(s);
+    let twice = recorded_twice(b);
+    let nowhere = own_nowhere(b);
+    let above = client_above(b);
+    let lengths = length_bad(b);
+    let besides = held_besides(b);
+    let unfit = frame_unfit(under, n, flags.interrupt_handling);
+    let missing = buffer_missing(b, n);
+    twice | (nowhere | (above | (lengths | (besides | (unfit | missing)))))
+}
