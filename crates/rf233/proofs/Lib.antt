@@ -5,3 +5,9 @@ pub mod Keys
 pub mod Tables
 pub mod PoolLaws
 pub mod Sound
+pub mod Accepted
+pub mod StartupClaim
+pub mod Starred
+pub mod StarredProofs
+pub mod OwnBuffers
+pub mod StarredSteps

@@ -24,7 +24,7 @@ use Rattle.rf233.specs.declared.state.InternalState.the-variants.{START}
 use Rattle.rf233.proofs.Keys.{range}
 
 -- two functions that agree on the list of the numbers from lo on agree at each n among them
-in-range : {A : Type 0} (f g : ℕ → A) (lo len n : ℕ) → map f (range lo len) ≡ map g (range lo len) → lo ≤ n → n < lo + len → f n ≡ g n
+pub in-range : {A : Type 0} (f g : ℕ → A) (lo len n : ℕ) → map f (range lo len) ≡ map g (range lo len) → lo ≤ n → n < lo + len → f n ≡ g n
 in-range f g lo zero n h p q = absurd (omega arith)
 in-range f g lo (suc len) n h p q =
     ⊎-elim (λ e. subst (λ (k : ℕ). f k ≡ g k) e (cc)) (λ l. in-range f g (suc lo) len n (cc) l (omega arith)) (eq-or-lt-of-le p)

@@ -13,3 +13,6 @@ pub mod Pool
 pub mod Record
 pub mod Calls
 pub mod New
+pub mod Startup
+pub mod Book
+pub mod Claim

@@ -1,26 +1,28 @@
-// The AT86RF233 driver: states, settings, buffers, transfers and steps, by value, over a lent pool.
+// The AT86RF233 driver: states, settings, buffers, transfers and steps, by value, over a lent pool. The public modules hold the calls
+// and the types that they take and yield; the others are the steps behind them.
 pub mod action;
 pub mod answer;
-pub mod arrived;
-pub mod case;
-pub mod commit;
-pub mod completion;
+mod arrived;
+mod case;
+mod commit;
+mod completion;
 pub mod config;
 pub mod create;
 pub mod driver;
-pub mod guard;
-pub mod interrupt;
+pub mod fired;
+mod guard;
+mod interrupt;
 pub mod kernel;
 pub mod listeners;
-pub mod pool;
+mod pool;
 pub mod power;
-pub mod ready;
-pub mod receive;
-pub mod record;
-pub mod sleep;
-pub mod start;
-pub mod startup;
+mod ready;
+mod receive;
+mod record;
+mod sleep;
+mod start;
+mod startup;
 pub mod state;
-pub mod step;
+mod step;
 pub mod transfer;
-pub mod transmit;
+mod transmit;

@@ -1,0 +1,128 @@
+-- What an accepted and a refused event leave: an accepted completion is the step `completed` on the copied bytes, an accepted firing is
+-- `handleInterrupt`, and a refused event leaves the driver as it was. From this: a step's own answer is always done. Assumes nothing.
+use mathlib.Core.Path.{_≡_, refl, sym, ap, subst, _∙_}
+use mathlib.Core.Bool.{Bool, true, false, not, _&&_, _||_}
+use mathlib.Core.List.{List}
+use Prim.Native.Nat.{ℕ}
+use lib.Dec.{T, eqb}
+use Rattle.rf233.specs.Answer.{answerNo}
+use Rattle.rf233.specs.Calls.{Called, guarded, completing, completionCall, firedCall, arrivedOf, arrivedBad}
+use Rattle.rf233.specs.Choice.{pick, oneOf}
+use Rattle.rf233.specs.Completion.{inNo, handleInterrupt, waitingCommit, pendingInterrupt, readyBookkeeping, frameEnd, interruptResult, completed}
+use Rattle.rf233.specs.Engine.{perform, caseOf, own}
+use Rattle.rf233.specs.Pool.{copied, readBuffer}
+use Rattle.rf233.specs.Record.{poolFault}
+use Rattle.rf233.specs.Rows.{Row, eval, treeAt}
+use Rattle.rf233.specs.Rows.Row.{does}
+use Rattle.rf233.specs.Startup.{after, accepted}
+use Rattle.rf233.specs.Transfer.{isIdle}
+use Rattle.rf233.specs.declared.answer.Answer.the-variants.{Done}
+use Rattle.rf233.specs.declared.answer.Outcome.{Outcome}
+use Rattle.rf233.specs.declared.arrived.Arrived.{Arrived}
+use Rattle.rf233.specs.declared.driver.Driver.{Driver}
+
+-- what holds of both ends of a choice holds of the choice
+pub either {ℓ κ} : {A : Type ℓ} (P : A → Type κ) (t : Bool) (x y : A) → P x → P y → P (pick t x y)
+unfolding pick
+either P true x y p q = p
+either P false x y p q = q
+
+-- the answer is done
+abbrev pub IsDone : Outcome → Type 0
+IsDone o = o .reply .answer ≡ Done
+
+done-perform : (r : Row) (a : Arrived) (d : Driver) → IsDone (perform r a d)
+unfolding perform
+done-perform (does l x n s) a d = refl
+
+done-own : (a : Arrived) (d : Driver) → IsDone (own a d)
+unfolding caseOf
+done-own a d = done-perform (eval (treeAt _) a d) a d
+
+done-handle : (d : Driver) → IsDone (handleInterrupt d)
+unfolding handleInterrupt
+done-handle d = either IsDone _ _ _ (either IsDone _ _ _ refl refl) refl
+
+done-commit : (a : Arrived) (d : Driver) → IsDone (waitingCommit a d)
+unfolding waitingCommit
+done-commit a d = either IsDone _ _ _ refl (done-own a d)
+
+done-pending : (a : Arrived) (d : Driver) → IsDone (pendingInterrupt a d)
+unfolding pendingInterrupt
+done-pending a d = either IsDone _ _ _ (done-handle _) (done-commit a d)
+
+done-ready : (a : Arrived) (d : Driver) → IsDone (readyBookkeeping a d)
+unfolding readyBookkeeping
+done-ready a d = either IsDone _ _ _ (done-pending a _) (done-pending a d)
+
+done-frame : (a : Arrived) (d : Driver) → IsDone (frameEnd a d)
+unfolding frameEnd
+done-frame a d = either IsDone _ _ _ (either IsDone _ _ _ (done-ready a _) (either IsDone _ _ _ refl refl)) (done-ready a d)
+
+done-result : (a : Arrived) (d : Driver) → IsDone (interruptResult a d)
+unfolding interruptResult
+done-result a d = either IsDone _ _ _ (done-ready a d) (done-frame a _)
+
+pub done-completed : (a : Arrived) (d : Driver) → IsDone (completed a d)
+unfolding completed
+done-completed a d = either IsDone _ _ _ (done-result a _) (done-ready a _)
+
+-- true is not false
+pub clash : {A : Type 0} (b : Bool) → b ≡ false → b ≡ true → A
+clash true e f = absurd (subst T e tt)
+clash false e f = absurd (subst T (sym f) tt)
+
+-- what is accepted went past a test that refuses
+pub past : (t : Bool) (r s : Called) → accepted r ≡ false → accepted (pick t r s) ≡ true → pick t r s ≡ s
+unfolding pick
+past true r s e a = clash (accepted r) e a
+past false r s e a = refl
+
+-- an accepted firing is the interrupt's step
+pub fired-accepted : (d : Driver) (p : List ℕ) → accepted (firedCall d p) ≡ true → after (firedCall d p) ≡ handleInterrupt d .driver
+unfolding firedCall
+fired-accepted d p e = ap after (past (poolFault d p) _ _ refl e)
+
+-- an accepted completion is the step of its bytes
+abbrev pub arrived : Driver → List ℕ → List ℕ → Arrived
+arrived d xs p = arrivedOf xs (d .buffers) (copied (readBuffer (d .buffers .under)) xs p)
+
+pub completion-accepted : (d : Driver) (xs p : List ℕ) → accepted (completionCall d xs p) ≡ true
+    → after (completionCall d xs p) ≡ completed (arrived d xs p) d .driver
+unfolding completionCall completing
+completion-accepted d xs p e =
+    let e₁ = past (poolFault d p) _ _ refl e in
+    let e₂ = past (isIdle (d .buffers .under)) _ _ refl (ap accepted (sym e₁) ∙ e) in
+    let e₃ = past (arrivedBad xs (d .buffers)) _ _ refl (ap accepted (sym e₂) ∙ (ap accepted (sym e₁) ∙ e)) in
+    ap after (e₁ ∙ (e₂ ∙ e₃))
+
+-- a completion that is accepted had a transfer under way
+not-refused : (t : Bool) (r s : Called) → accepted r ≡ false → accepted (pick t r s) ≡ true → t ≡ false
+unfolding pick
+not-refused true r s e a = clash (accepted r) e a
+not-refused false r s e a = refl
+
+pub had-transfer : (d : Driver) (xs p : List ℕ) → accepted (completionCall d xs p) ≡ true → isIdle (d .buffers .under) ≡ false
+unfolding completionCall
+had-transfer d xs p e =
+    not-refused (isIdle (d .buffers .under)) _ _ refl (ap accepted (sym (past (poolFault d p) _ _ refl e)) ∙ e)
+
+-- a refused event leaves the driver as it was
+abbrev Unaltered : Driver → Called → Type 0
+Unaltered d c = accepted c ≡ false → after c ≡ d
+
+taken-is-accepted : (o : Outcome) → IsDone o → eqb (answerNo (o .reply .answer)) 0 ≡ true
+taken-is-accepted o e = ap (λ x. eqb (answerNo x) 0) e
+
+pub fired-refused : (d : Driver) (p : List ℕ) → Unaltered d (firedCall d p)
+unfolding firedCall
+fired-refused d p =
+    either (Unaltered d) (poolFault d p) _ _ (λ e. refl) (λ e. clash _ e (taken-is-accepted (handleInterrupt d) (done-handle d)))
+
+pub completion-refused : (d : Driver) (xs p : List ℕ) → Unaltered d (completionCall d xs p)
+unfolding completionCall completing
+completion-refused d xs p =
+    either (Unaltered d) (poolFault d p) _ _ (λ e. refl)
+    (either (Unaltered d) (isIdle (d .buffers .under)) _ _ (λ e. refl)
+    (either (Unaltered d) (arrivedBad xs (d .buffers)) _ _ (λ e. refl)
+    (λ e. clash _ e (taken-is-accepted (completed _ d) (done-completed _ d)))))
