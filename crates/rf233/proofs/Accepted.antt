@@ -39,7 +39,7 @@ done-own : (a : Arrived) (d : Driver) → IsDone (own a d)
 unfolding caseOf
 done-own a d = done-perform (eval (treeAt _) a d) a d
 
-done-handle : (d : Driver) → IsDone (handleInterrupt d)
+pub done-handle : (d : Driver) → IsDone (handleInterrupt d)
 unfolding handleInterrupt
 done-handle d = either IsDone _ _ _ (either IsDone _ _ _ refl refl) refl
 

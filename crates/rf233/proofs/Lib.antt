@@ -11,3 +11,12 @@ pub mod Starred
 pub mod StarredProofs
 pub mod OwnBuffers
 pub mod StarredSteps
+pub mod StarredOccur
+pub mod Logic
+pub mod Fit
+pub mod BookLaws
+pub mod Match
+pub mod Custody
+pub mod Engine
+pub mod Calls
+pub mod CustodyClaim

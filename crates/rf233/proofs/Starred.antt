@@ -1,6 +1,6 @@
 -- Document 01, "Corners in rf233.rs": the cases marked *, as one table in document 01's order. Each line quotes its corner and says it
 -- of the definitions that the public calls promise, for every driver, pool and bytes that meet the corner's condition. The theorem
--- `starred` of StarredProofs.antt proves the table. Assumes nothing.
+-- `starred` of StarredProofs.antt proves the table; StarredOccur.antt shows that its conditions occur. Assumes nothing.
 use mathlib.Core.Path.{_≡_}
 use mathlib.Core.Bool.{Bool, true, false}
 use mathlib.Core.List.{List, [], _∷_, map}
@@ -41,7 +41,7 @@ pub record Passes12 (d : Driver) (p : List ℕ) : Type 0 where
 abbrev pub In : ℕ → Driver → Type 0
 In n d = stateNo (d .state) ≡ n
 
--- a driver with the radio on and nothing held: no transmit buffer held or under way, not transmitting; the driver has not client's buffer b
+-- radio on, nothing held: no transmit buffer held or under way, not transmitting, and the client's buffer b nowhere in the driver's record
 pub record MaySend (d : Driver) (b : ℕ) (p : List ℕ) : Type 0 where
   pub passes : Passes12 d p
   pub on : d .flags .«radio_on» ≡ true
@@ -51,7 +51,7 @@ pub record MaySend (d : Driver) (b : ℕ) (p : List ℕ) : Type 0 where
   pub clients : b ≤ 15
   pub new : recordHas (d .buffers) b ≡ false
 
--- a transfer u under way in state n completes with bytes that it can bring, while no interrupt is being handled or pending
+-- the transfer u, under way in state n, completes with bytes that it can bring (refusal 13), while no interrupt is being handled or pending
 pub record Completes (u : Under) (n : ℕ) (d : Driver) (xs p : List ℕ) : Type 0 where
   pub passes : Passes12 d p
   pub state : In n d
@@ -60,7 +60,7 @@ pub record Completes (u : Under) (n : ℕ) (d : Driver) (xs p : List ℕ) : Type
   pub handling : d .flags .«interrupt_handling» ≡ false
   pub pending : d .flags .«interrupt_pending» ≡ false
 
--- the same of an interrupt's detour: the transfer is the read of IRQ_STATUS that the interrupt started, its value has bit 2 (RX_START)
+-- the same after an interrupt's detour: the transfer is the read of IRQ_STATUS that the interrupt started, its value has bit 2 (RX_START)
 -- clear, and no frame is being received
 pub record Detours (n : ℕ) (d : Driver) (xs p : List ℕ) : Type 0 where
   pub passes : Passes12 d p
@@ -80,13 +80,14 @@ pub record Sends (kind first second n : ℕ) (c : Called) : Type 0 where
   pub byte-1 : getD (c .pool) 2561 0 ≡ second
   pub state : In n (c .outcome .driver)
 
+-- the same, of a read and of a write: first byte, second byte, state
 abbrev pub Reads : ℕ → ℕ → ℕ → Called → Type 0
 Reads = Sends 1
 
 abbrev pub Writes : ℕ → ℕ → ℕ → Called → Type 0
 Writes = Sends 2
 
--- the buffer b of length l is held for sending, n its frame's length plus 2
+-- accepted: buffer b of length l is held for sending, n is its frame's length plus 2
 pub record Takes (b l n : ℕ) (c : Called) : Type 0 where
   pub answer : c .outcome .reply .answer ≡ Done
   pub held : c .outcome .driver .buffers .«tx_buf» ≡ Held b l
