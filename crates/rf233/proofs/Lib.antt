@@ -20,3 +20,4 @@ pub mod Custody
 pub mod Engine
 pub mod Calls
 pub mod CustodyClaim
+pub mod BookCounts

@@ -16,3 +16,5 @@ pub mod New
 pub mod Startup
 pub mod Book
 pub mod Claim
+pub mod BookCode
+pub mod Place

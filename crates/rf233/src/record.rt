@@ -10,7 +10,7 @@ ghost use Prim.Native.Nat.{_≤_};
 ghost use Rattle.rf233.specs.Record.{slotHas, underHas, ownHas, one, countOf, recordHas, recordedTwice, ownNowhere, slotAbove, underSlot, clientAbove, sending, receiving, txLengthBad, rxLengthBad, lengthBad, heldBesides, frameNo, stateFrame, frameUnfit, bufferMissing, described};
 
 // The place has the buffer.
-fn slot_has(slot: Slot, buffer: u8) -> bool
+pub(crate) fn slot_has(slot: Slot, buffer: u8) -> bool
     ensures { λ r. ⌜ r ≡ slotHas slot buffer ⌝ }
 {
     match slot {
@@ -20,7 +20,7 @@ fn slot_has(slot: Slot, buffer: u8) -> bool
 }
 
 // The transfer under way has the buffer.
-fn under_has(under: Under, buffer: u8) -> bool
+pub(crate) fn under_has(under: Under, buffer: u8) -> bool
     ensures { λ r. ⌜ r ≡ underHas under buffer ⌝ }
 {
     match under {
@@ -32,7 +32,7 @@ fn under_has(under: Under, buffer: u8) -> bool
 }
 
 // It is an own buffer, in its own place.
-fn own_has(b: Buffers, buffer: u8) -> bool
+pub(crate) fn own_has(b: Buffers, buffer: u8) -> bool
     ensures { λ r. ⌜ r ≡ ownHas b buffer ⌝ }
 {
     (b.spi_tx & (16 == buffer)) | ((b.spi_rx & (17 == buffer)) | (b.spi_buf & (18 == buffer)))

@@ -1,0 +1,69 @@
+-- `set_receive_buffer` meets its contract: the refusals in order, then the buffer is in the receive place. What 7 does not refuse fits a byte. Assumes nothing.
+use borrow.Author.Needs.{needs}
+use native.Mathlib.Omega.{arith}
+use borrow.Author.Tests.{lt-ltb, le-ltb, ltb-false}
+use lib.Dec.{ltb}
+use Rattle.rf233.specs.Choice.{pick}
+use Rattle.rf233.specs.Calls.{receiveBufferCall}
+use Rattle.rf233.proofs.Sound.{none-left, none-right}
+use Rattle.rf233.proofs.data.set_receive_buffer.Statement.{statement}
+use Rattle.rf233.proofs.data.set_receive_buffer.Tie as tie
+
+returns : tie.Need-returns
+unfolding receiveBufferCall pick
+returns c =
+    rw (rw (c .before .before .handle-bad .ensures) at (c .before .if1 .taken), c .refuse .ensures)
+
+returns-2 : tie.Need-returns-2
+unfolding receiveBufferCall pick
+returns-2 c =
+    rw (rw (c .before .before .before .handle-bad .ensures) at (c .before .before .if1 .left), lt-ltb (c .before .before .before .before .args .length) 129 (c .before .if2 .taken), c .refuse2 .ensures)
+
+returns-3 : tie.Need-returns-3
+unfolding receiveBufferCall pick
+returns-3 c =
+    rw (rw (c .before .before .before .before .before .handle-bad .ensures) at (c .before .before .before .before .if1 .left), le-ltb (c .before .before .before .before .before .before .args .length) 129 (c .before .before .before .if2 .left), rw (c .before .before .rx-full .ensures) at (c .before .if3 .taken), c .refuse3 .ensures)
+
+cast-place : tie.Need-cast-place
+cast-place c =
+    let x = c .before .before .before .before .before .before .args in
+    let right = rw (c .before .before .before .before .before .handle-bad .ensures) at (c .before .before .before .before .if1 .left) in
+    omega (arith, ltb-false 15 (x .buffer) (none-left (ltb 15 (x .buffer)) (ltb 160 (x .length)) right))
+
+returns-4 : tie.Need-returns-4
+unfolding receiveBufferCall pick
+returns-4 c =
+    rw (rw (c .before .before .before .before .before .before .before .before .handle-bad .ensures) at (c .before .before .before .before .before .before .before .if1 .left), le-ltb (c .before .before .before .before .before .before .before .before .before .args .length) 129 (c .before .before .before .before .before .before .if2 .left), rw (c .before .before .before .before .before .rx-full .ensures) at (c .before .before .before .before .if3 .left), rw (c .before .before .record-has .ensures) at (c .before .if4 .taken), c .refuse4 .ensures)
+
+cast-t16 : tie.Need-cast-t16
+cast-t16 c =
+    let x = c .before .before .before .before .before .before .before .before .args in
+    let right = rw (c .before .before .before .before .before .before .before .handle-bad .ensures) at (c .before .before .before .before .before .before .if1 .left) in
+    omega (arith, ltb-false 160 (x .length) (none-right (ltb 15 (x .buffer)) (ltb 160 (x .length)) right))
+
+returns-5 : tie.Need-returns-5
+unfolding receiveBufferCall pick
+returns-5 c =
+    rw (rw (c .before .before .before .before .before .before .before .before .before .before .handle-bad .ensures) at (c .before .before .before .before .before .before .before .before .before .if1 .left), le-ltb (c .before .before .before .before .before .before .before .before .before .before .before .args .length) 129 (c .before .before .before .before .before .before .before .before .if2 .left), rw (c .before .before .before .before .before .before .before .rx-full .ensures) at (c .before .before .before .before .before .before .if3 .left), rw (c .before .before .before .before .record-has .ensures) at (c .before .before .before .if4 .left), c .stay .ensures, c .before .with-buffers .ensures, c .before .before .lend .ensures)
+
+pub set-receive-buffer-spec : {M : Type 1} → statement M
+set-receive-buffer-spec =
+    tie.close
+    (tie.spec
+    (λ c κs. search needs)
+    (λ c κs. search needs)
+    returns
+    (λ c κs. search needs)
+    returns-2
+    (λ c κs. search needs)
+    (λ c κs. search needs)
+    returns-3
+    cast-place
+    (λ c κs. search needs)
+    (λ c κs. search needs)
+    returns-4
+    cast-t16
+    (λ c κs. search needs)
+    (λ c κs. search needs)
+    (λ c κs. search needs)
+    returns-5)
