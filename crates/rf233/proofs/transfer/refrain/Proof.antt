@@ -1,3 +1,4 @@
+-- `refrain` meets its contract: the transfer that it yields is none, as `no_transfer` says. Assumes nothing.
 use borrow.Author.Needs.{needs}
 use Rattle.rf233.proofs.transfer.refrain.Statement.{statement}
 use Rattle.rf233.proofs.transfer.refrain.Tie as tie

@@ -1,3 +1,4 @@
+-- `register_write` meets its contract, from what `register_transfer` and the command byte of `rf233_const` promise. Assumes nothing.
 use borrow.Author.Needs.{needs}
 use Rattle.rf233.proofs.transfer.register_write.Statement.{statement}
 use Rattle.rf233.proofs.transfer.register_write.Tie as tie
