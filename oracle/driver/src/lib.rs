@@ -24,6 +24,7 @@ pub mod run;
 pub mod session;
 pub mod shrink;
 pub mod view;
+pub mod walk;
 
 // The driver itself, copied unchanged by the build script.
 include!(concat!(env!("OUT_DIR"), "/rf233_modules.rs"));

@@ -17,8 +17,10 @@ use crate::view::View;
 const FIRST_LENGTH: usize = 129;
 const FIRST_CHANNEL: u8 = 26;
 
-/// The states whose case may drop a sent buffer, and announces a received one.
+/// The states whose case may drop a sent buffer, comes last before a received one is
+/// announced, and announces it.
 const TX_RETURN_TO_RX: u8 = 43;
+const RX_READING_FRAME_FCS_DONE: u8 = 67;
 const RX_ENABLING_RECEPTION: u8 = 68;
 
 /// Why a line was not performed.
@@ -85,11 +87,22 @@ impl Session {
     /// the Rust subtracts 2 from it and panics.
     pub fn announces_underflow(&self) -> bool {
         let image = &self.view.image;
+        let announces = image.state() == RX_ENABLING_RECEPTION && image.listeners.receive;
+        announces && self.short_frame()
+    }
+
+    /// Whether a frame has been read out, is still to be announced, and its length byte is
+    /// below 2.
+    pub fn short_frame(&self) -> bool {
+        let image = &self.view.image;
         let Some(lease) = &image.cells.rx_buf else {
             return false;
         };
         let length = self.bench.area.byte(lease.buffer * BUFFER + 1);
-        image.state() == RX_ENABLING_RECEPTION && image.listeners.receive && length < 2
+        matches!(
+            image.state(),
+            RX_READING_FRAME_FCS_DONE | RX_ENABLING_RECEPTION
+        ) && length < 2
     }
 
     /// The lines at the end of a run.
