@@ -1,10 +1,10 @@
 // A script's call made on the driver, through its public functions.
 use crate::area::eight;
+use custody::book::Fed;
 use rf233::action::no_actions;
 use rf233::answer::Answer;
 use rf233::answer::Outcome;
 use rf233::answer::Reply;
-use rf233::book::Fed;
 use rf233::config::busy;
 use rf233::config::config_commit;
 use rf233::config::get_address;

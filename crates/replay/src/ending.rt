@@ -1,6 +1,6 @@
 // The three lines at the end of the input: the book's counts, where the book has each buffer, and where the driver's record has it.
 use crate::run::Run;
-use rf233::book::Book;
+use custody::book::Book;
 use rf233::driver::Buffers;
 use rf233::place::place_in_record;
 use script::print::byte_fields;

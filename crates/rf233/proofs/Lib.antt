@@ -14,10 +14,3 @@ pub mod StarredSteps
 pub mod StarredOccur
 pub mod Logic
 pub mod Fit
-pub mod BookLaws
-pub mod Match
-pub mod Custody
-pub mod Engine
-pub mod Calls
-pub mod CustodyClaim
-pub mod BookCounts

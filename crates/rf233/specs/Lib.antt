@@ -14,7 +14,4 @@ pub mod Record
 pub mod Calls
 pub mod New
 pub mod Startup
-pub mod Book
-pub mod Claim
-pub mod BookCode
 pub mod Place

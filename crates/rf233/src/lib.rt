@@ -3,7 +3,6 @@
 pub mod action;
 pub mod answer;
 mod arrived;
-pub mod book;
 mod case;
 mod commit;
 mod completion;

@@ -1,0 +1,354 @@
+-- Each part of a step keeps the invariant: the book agrees with the driver's record, the record fits the state, the lengths are within
+-- their bounds. Assumes nothing.
+use mathlib.Core.Path.{_≡_, refl, sym, ap, subst, _∙_}
+use mathlib.Core.Bool.{Bool, true, false, not, _&&_, _||_, cond}
+use mathlib.Core.List.{List, [], _∷_, _++_, map}
+use Prim.Native.Nat.{ℕ, zero, suc, _+_, _≤_, suc-le-suc}
+use native.Mathlib.Omega.{arith}
+use lib.Dec.{T, eqb, leb, leb→le}
+use borrow.Author.Tests.{le-leb, leb-true}
+use lib.ListN.{length, take, replicate}
+use native.Mathlib.Nat.{not-suc-le-zero, le-of-suc-le-suc, le-refl, le-step}
+use Rattle.rf233_const.specs.Bits.{bitSet}
+use Rattle.rf233_const.specs.Command as command
+use Rattle.rf233_const.specs.Flags.{rxCrcValidBit}
+use Rattle.rf233.specs.Action.{actions, item}
+use Rattle.custody.specs.Book.{Page, begun, taken, noted, notedAll, given}
+use Rattle.rf233.specs.Choice.{pick, oneOf}
+use Rattle.custody.specs.Claim.{kindOf, underKind}
+use Rattle.rf233.specs.Completion.{has}
+use Rattle.rf233.specs.Driver.{Flag, Setting, flag, setFlag, setAll, flagNo, setting, inState, withBuffers}
+use Rattle.rf233.specs.Driver.Flag.{sending, handling, crcValid}
+use Rattle.rf233.specs.Driver.Setting.{put, putCrc}
+use Rattle.rf233.specs.Engine.{bufferIn, perform, accessed, shown, handed, entering, withoutTx, withoutRx, own, caseOf}
+use Rattle.rf233.specs.Record as rec
+use Rattle.rf233.specs.Record.{within, txLengthBad, rxLengthBad, lengthBad}
+use Rattle.rf233.specs.Rows.{Access, Shown, Next, Row, holds, eval, treeAt}
+use Rattle.rf233.specs.Rows.Test.{lengthFits}
+use Rattle.rf233.specs.Rows.Access.{none, reads, writes, readsLength, readsFrame, writesFrame}
+use Rattle.rf233.specs.Rows.Shown.{plain, powerChanged, configDone, sentBack, droppedBack, receivedBack}
+use Rattle.rf233.specs.Rows.Row.{does}
+use Rattle.rf233.specs.State.{stateNo}
+use Rattle.rf233.specs.Transfer.{isIdle, recorded, transferOf, begins, refrains, registerTransfer, frameRead, frameReadInto, frameWrite, frameWriteFrom}
+use Rattle.rf233.specs.declared.action.Action.{Action}
+use Rattle.rf233.specs.declared.action.Action.the-variants.{Nothing, Power, Sent, Received, ConfigDone, Dropped, IrqMakeInput, IrqClear, IrqSetFloatingState, IrqEnableInterrupts, IrqDisableInterrupts, SleepMakeOutput, SleepSet, SleepClear, ResetMakeOutput, ResetClear, ResetSet}
+use Rattle.rf233.specs.declared.answer.Outcome.{Outcome}
+use Rattle.rf233.specs.declared.answer.Reply.{Reply}
+use Rattle.rf233.specs.declared.arrived.Arrived.{Arrived}
+use Rattle.rf233.specs.declared.driver.Buffers.{Buffers}
+use Rattle.rf233.specs.declared.driver.Driver.{Driver}
+use Rattle.rf233.specs.declared.driver.Flags.{Flags}
+use Rattle.rf233.specs.declared.transfer.Started.{Started}
+use Rattle.rf233.specs.declared.driver.Under.{Under}
+use Rattle.rf233.specs.declared.driver.Under.the-variants.{Idle, Register, FrameRead, FrameWrite}
+use Rattle.rf233.specs.declared.driver.Slot.{Slot}
+use Rattle.rf233.specs.declared.driver.Slot.the-variants.{Empty, Held}
+use Rattle.rf233.proofs.Fit.Kind.{nothing, access, reading, writing}
+use Rattle.rf233.proofs.Fit.{Kind, kind, fit, final, joins, harmless, okShown, txLeft, rxLeft, nextNo, okAccess, okRow}
+use Rattle.rf233.proofs.Sound.{both-left}
+use Rattle.rf233.proofs.Logic.{branch, left, right, pair}
+use Rattle.custody.proofs.Match.{Match, noFrame, begins-register, begins-read, begins-write, ends, gives-tx, gives-rx, lends-tx, lends-rx, refuses}
+use Rattle.rf233.specs.Place.{transmitPlace, receivePlace}
+
+-- the record b with flags f fits state n
+abbrev pub Fits : ℕ → Buffers → Flags → Type 0
+Fits n b f = T (fit (kind (b .under)) n (has (b .«tx_buf»)) (has (b .«rx_buf»)) (flag sending f) (flag handling f))
+
+-- the record once a register transfer has begun
+abbrev pub registers : Buffers → Buffers
+registers b = recorded false false (b .«spi_buf») (b .«spi_buf_len») (b .«tx_buf») (b .«rx_buf») Register b
+
+-- the record once a frame read, or a frame write, has begun
+abbrev reading-into : ℕ → ℕ → ℕ → Buffers → Buffers
+reading-into c l n b = recorded (b .«spi_tx») (b .«spi_rx») false n (b .«tx_buf») Empty (FrameRead c l) b
+
+abbrev writing-from : ℕ → ℕ → Buffers → Buffers
+writing-from c l b = recorded (b .«spi_tx») (b .«spi_rx») false (b .«spi_buf_len») Empty (b .«rx_buf») (FrameWrite c l) b
+
+-- every length of the record is within its bounds
+pub record Lengths (r : Buffers) : Type 0 where
+  pub whole : within 129 160 (r .«spi_buf_whole») ≡ true
+  pub present : within 2 (r .«spi_buf_whole») (r .«spi_buf_len») ≡ true
+  pub tx : txLengthBad (r .«tx_buf») (r .«tx_len») ≡ false
+  pub tx-under : txLengthBad (rec.sending (r .under)) (r .«tx_len») ≡ false
+  pub rx : rxLengthBad (r .«rx_buf») ≡ false
+  pub rx-under : rxLengthBad (rec.receiving (r .under)) ≡ false
+
+-- the invariant
+pub record Inv (k : Page) (d : Driver) : Type 0 where
+  pub match : Match (d .buffers) k
+  pub fitted : Fits (stateNo (d .state)) (d .buffers) (d .flags)
+  pub lengths : Lengths (d .buffers)
+
+-- the book once a step's actions and transfer are entered
+abbrev pub entering-step : Reply → Page → Page
+entering-step y k = begun (y .transfer .kind) (y .transfer .write) (y .transfer .read) (notedAll (y .actions .items) k)
+
+-- the invariant after a step
+pub record After (k : Page) (o : Outcome) : Type 0 where
+  pub inv : Inv (entering-step (o .reply) k) (o .driver)
+
+-- ---- actions
+
+-- the actions entered one after another
+abbrev pub notes : List Action → Page → Page
+notes [] k = k
+notes (x ∷ more) k = notes more (noted x k)
+
+-- what fills the list past its count is passed over
+nothings : (n m : ℕ) (k : Page) → notedAll (map item (take n (replicate m Nothing))) k ≡ k
+nothings zero m k = refl
+nothings (suc n) zero k = refl
+nothings (suc n) (suc m) k = nothings n m k
+
+pub filled : (n m : ℕ) (l : List Action) (k : Page) → length l ≤ n → notedAll (map item (take n (l ++ replicate m Nothing))) k ≡ notes l k
+filled n m [] k h = nothings n m k
+filled zero m (x ∷ l) k h = absurd (not-suc-le-zero h)
+filled (suc n) m (x ∷ l) k h = filled n m l (noted x k) (le-of-suc-le-suc h)
+
+-- an action that hands nothing back leaves the book as it is
+quietly : (x : Action) (k : Page) → T (harmless x) → noted x k ≡ k
+quietly Nothing k h = refl
+quietly (Power v) k h = refl
+quietly (Sent b a e) k h = absurd h
+quietly (Received b l v) k h = absurd h
+quietly ConfigDone k h = refl
+quietly (Dropped b) k h = absurd h
+quietly IrqMakeInput k h = refl
+quietly IrqClear k h = refl
+quietly IrqSetFloatingState k h = refl
+quietly IrqEnableInterrupts k h = refl
+quietly IrqDisableInterrupts k h = refl
+quietly SleepMakeOutput k h = refl
+quietly SleepSet k h = refl
+quietly SleepClear k h = refl
+quietly ResetMakeOutput k h = refl
+quietly (ResetClear n) k h = refl
+quietly ResetSet k h = refl
+
+-- no more actions than the row names
+pub fewer : (a : Arrived) (d : Driver) (sh : List Shown) → length (shown a d sh) ≤ length sh
+fewer a d [] = le-refl 0
+fewer a d (plain x ∷ more) = suc-le-suc (fewer a d more)
+fewer a d (powerChanged ∷ more) = branch (λ z. length z ≤ suc (length more)) _ _ _ (λ y. suc-le-suc (fewer a d more)) (λ y. le-step (fewer a d more))
+fewer a d (configDone ∷ more) = branch (λ z. length z ≤ suc (length more)) _ _ _ (λ y. suc-le-suc (fewer a d more)) (λ y. le-step (fewer a d more))
+fewer a d (sentBack ∷ more) = suc-le-suc (fewer a d more)
+fewer a d (droppedBack ∷ more) = suc-le-suc (fewer a d more)
+fewer a d (receivedBack ∷ more) = suc-le-suc (fewer a d more)
+
+-- a place that is full has a buffer
+full : {A : Type 0} (s : Slot) → T (has s) → ((c l : ℕ) → s ≡ Held c l → A) → A
+full Empty h f = absurd h
+full (Held c l) h f = f c l refl
+
+-- the buffer that a notice names is the one in the place
+named : (s t : Slot) (c l : ℕ) → s ≡ Held c l → (T (has s) → s ≡ t) → bufferIn t ≡ c
+named s t c l e f = ap bufferIn (sym (f (subst (λ z. T (has z)) (sym e) tt)) ∙ e)
+
+-- the actions of a row, entered, leave the book in agreement with the places that they empty. The row is of the driver d; b is the record
+-- as far as it has been emptied: a place of b that is full is d's
+module _ (a : Arrived) (d : Driver) where
+  pub record Of (b : Buffers) : Type 0 where
+    pub tx-of : T (has (b .«tx_buf»)) → b .«tx_buf» ≡ d .buffers .«tx_buf»
+    pub rx-of : T (has (b .«rx_buf»)) → b .«rx_buf» ≡ d .buffers .«rx_buf»
+
+  pub hands : (sh : List Shown) (b : Buffers) (k : Page) → Of b → T (okShown sh (has (b .«tx_buf»)) (has (b .«rx_buf»))) → Match b k
+      → Match (handed sh b) (notes (shown a d sh) k)
+  hands [] b k f o m = m
+  hands (plain x ∷ more) b k f o m =
+      subst (λ z. Match (handed more b) (notes (shown a d more) z)) (sym (quietly x k (left (harmless x) _ o)))
+      (hands more b k f (right (harmless x) _ o) m)
+  hands (powerChanged ∷ more) b k f o m =
+      branch (λ z. Match (handed more b) (notes z k)) _ _ _ (λ y. hands more b k f o m) (λ y. hands more b k f o m)
+  hands (configDone ∷ more) b k f o m =
+      branch (λ z. Match (handed more b) (notes z k)) _ _ _ (λ y. hands more b k f o m) (λ y. hands more b k f o m)
+  hands (sentBack ∷ more) b k f o m =
+      full (b .«tx_buf») (left (has (b .«tx_buf»)) _ o)
+      (λ c l e. subst (λ z. Match (handed more (withoutTx b)) (notes (shown a d more) (given z transmitPlace 1 0 k))) (sym (named (b .«tx_buf») (d .buffers .«tx_buf») c l e (f .tx-of)))
+      (hands more (withoutTx b) (given c transmitPlace 1 0 k) (record { tx-of = λ y. absurd y; rx-of = f .rx-of }) (right (has (b .«tx_buf»)) _ o) (gives-tx b k m c l 1 0 e refl)))
+  hands (droppedBack ∷ more) b k f o m =
+      full (b .«tx_buf») (left (has (b .«tx_buf»)) _ o)
+      (λ c l e. subst (λ z. Match (handed more (withoutTx b)) (notes (shown a d more) (given z transmitPlace 0 1 k))) (sym (named (b .«tx_buf») (d .buffers .«tx_buf») c l e (f .tx-of)))
+      (hands more (withoutTx b) (given c transmitPlace 0 1 k) (record { tx-of = λ y. absurd y; rx-of = f .rx-of }) (right (has (b .«tx_buf»)) _ o) (gives-tx b k m c l 0 1 e refl)))
+  hands (receivedBack ∷ more) b k f o m =
+      full (b .«rx_buf») (left (has (b .«rx_buf»)) _ o)
+      (λ c l e. subst (λ z. Match (handed more (withoutRx b)) (notes (shown a d more) (given z receivePlace 1 0 k))) (sym (named (b .«rx_buf») (d .buffers .«rx_buf») c l e (f .rx-of)))
+      (hands more (withoutRx b) (given c receivePlace 1 0 k) (record { tx-of = f .tx-of; rx-of = λ y. absurd y }) (right (has (b .«rx_buf»)) _ o) (gives-rx b k m c l e)))
+
+-- ---- starters
+
+-- nothing is under way
+pub under-idle : (u : Under) → isIdle u ≡ true → u ≡ Idle
+under-idle Idle e = refl
+under-idle Register e = absurd (subst T (sym e) tt)
+under-idle (FrameRead c l) e = absurd (subst T (sym e) tt)
+under-idle (FrameWrite c l) e = absurd (subst T (sym e) tt)
+
+module _ (k : Page) (d : Driver) (m : Match (d .buffers) k) (i : isIdle (d .buffers .under) ≡ true) where
+  tx-there : d .buffers .«spi_tx» ≡ true
+  tx-there = m .tx-own ∙ ap (λ u. not (eqb (underKind u) 1)) (under-idle (d .buffers .under) i)
+
+  rx-there : d .buffers .«spi_rx» ≡ true
+  rx-there = m .rx-own ∙ ap (λ u. not (eqb (underKind u) 1)) (under-idle (d .buffers .under) i)
+
+  buf-there : d .buffers .«spi_buf» ≡ true
+  buf-there = m .buf-own ∙ ap noFrame (under-idle (d .buffers .under) i)
+
+  -- a register transfer begins where nothing is under way
+  pub register-begins : (n x y : ℕ) → registerTransfer n x y d ≡ begins (transferOf n 16 17 x y 2 2) (registers (d .buffers)) d
+  unfolding registerTransfer pick
+  register-begins n x y = rw (i, tx-there, rx-there)
+
+  read-begins : (n c l : ℕ) → frameReadInto (Held c l) n d ≡ begins (transferOf 3 18 c command.frameRead n (n + 2) l) (reading-into c l (n + 2) (d .buffers)) d
+  unfolding frameReadInto pick
+  read-begins n c l = rw (i, buf-there)
+
+  write-begins : (c l : ℕ) → frameWriteFrom (Held c l) d
+      ≡ begins (transferOf 4 c 18 command.frameWrite (d .buffers .«tx_len») (d .buffers .«tx_len» + 2) (d .buffers .«spi_buf_len»)) (writing-from c l (d .buffers)) d
+  unfolding frameWriteFrom pick
+  write-begins c l = rw (i, buf-there)
+
+-- while one is under way none begins
+pub register-refrains : (d : Driver) (n x y : ℕ) → isIdle (d .buffers .under) ≡ false → registerTransfer n x y d ≡ refrains d
+unfolding registerTransfer pick
+register-refrains d n x y i = rw i
+
+-- ---- what an access and the actions before it leave
+
+-- emptied places leave the transfer, the other place, and the lengths
+module _ (b : Buffers) (g : Lengths b) where
+  lengths-without-tx : Lengths (withoutTx b)
+  lengths-without-tx = record { whole = g .whole; present = g .present; tx = refl; tx-under = g .tx-under; rx = g .rx; rx-under = g .rx-under }
+
+  lengths-without-rx : Lengths (withoutRx b)
+  lengths-without-rx = record { whole = g .whole; present = g .present; tx = g .tx; tx-under = g .tx-under; rx = refl; rx-under = g .rx-under }
+
+pub handed-lengths : (sh : List Shown) (b : Buffers) → Lengths b → Lengths (handed sh b)
+handed-lengths [] b g = g
+handed-lengths (plain x ∷ more) b g = handed-lengths more b g
+handed-lengths (powerChanged ∷ more) b g = handed-lengths more b g
+handed-lengths (configDone ∷ more) b g = handed-lengths more b g
+handed-lengths (sentBack ∷ more) b g = handed-lengths more (withoutTx b) (lengths-without-tx b g)
+handed-lengths (droppedBack ∷ more) b g = handed-lengths more (withoutTx b) (lengths-without-tx b g)
+handed-lengths (receivedBack ∷ more) b g = handed-lengths more (withoutRx b) (lengths-without-rx b g)
+
+pub handed-under : (sh : List Shown) (b : Buffers) → handed sh b .under ≡ b .under
+handed-under [] b = refl
+handed-under (plain x ∷ more) b = handed-under more b
+handed-under (powerChanged ∷ more) b = handed-under more b
+handed-under (configDone ∷ more) b = handed-under more b
+handed-under (sentBack ∷ more) b = handed-under more (withoutTx b)
+handed-under (droppedBack ∷ more) b = handed-under more (withoutTx b)
+handed-under (receivedBack ∷ more) b = handed-under more (withoutRx b)
+
+pub handed-tx : (sh : List Shown) (b : Buffers) → has (handed sh b .«tx_buf») ≡ txLeft sh (has (b .«tx_buf»))
+handed-tx [] b = refl
+handed-tx (plain x ∷ more) b = handed-tx more b
+handed-tx (powerChanged ∷ more) b = handed-tx more b
+handed-tx (configDone ∷ more) b = handed-tx more b
+handed-tx (sentBack ∷ more) b = handed-tx more (withoutTx b)
+handed-tx (droppedBack ∷ more) b = handed-tx more (withoutTx b)
+handed-tx (receivedBack ∷ more) b = handed-tx more (withoutRx b)
+
+pub handed-rx : (sh : List Shown) (b : Buffers) → has (handed sh b .«rx_buf») ≡ rxLeft sh (has (b .«rx_buf»))
+handed-rx [] b = refl
+handed-rx (plain x ∷ more) b = handed-rx more b
+handed-rx (powerChanged ∷ more) b = handed-rx more b
+handed-rx (configDone ∷ more) b = handed-rx more b
+handed-rx (sentBack ∷ more) b = handed-rx more (withoutTx b)
+handed-rx (droppedBack ∷ more) b = handed-rx more (withoutTx b)
+handed-rx (receivedBack ∷ more) b = handed-rx more (withoutRx b)
+
+-- a flag after a row's settings
+pub flag-after : (r : ℕ) (l : List Setting) (f : Flags) → (flag sending (setAll r l f) ≡ final sending l (flag sending f)) × (flag handling (setAll r l f) ≡ final handling l (flag handling f))
+flag-after r [] f = (refl, refl)
+flag-after r (put x v ∷ more) f = flag-after r more (setFlag x v f)
+flag-after r (putCrc ∷ more) f = flag-after r more (setFlag crcValid (bitSet rxCrcValidBit r) f)
+
+-- the lengths once a transfer has begun
+pub lengths-register : (b : Buffers) → Lengths b → Lengths (registers b)
+lengths-register b g = record { whole = g .whole; present = g .present; tx = g .tx; tx-under = refl; rx = g .rx; rx-under = refl }
+
+lengths-read : (c l n : ℕ) (b : Buffers) → b .«rx_buf» ≡ Held c l → n ≤ 127 → Lengths b → Lengths (reading-into c l (n + 2) b)
+lengths-read c l n b e h g =
+    record {
+      whole = g .whole;
+      present =
+          rw (
+            le-leb 2 (n + 2) (omega arith),
+            le-leb (n + 2) (b .«spi_buf_whole»)
+                (omega (arith, leb-true 129 (b .«spi_buf_whole») (both-left (leb 129 (b .«spi_buf_whole»)) _ (g .whole)))),
+          );
+      tx = g .tx;
+      tx-under = refl;
+      rx = refl;
+      rx-under = ap rxLengthBad (sym e) ∙ g .rx;
+    }
+
+lengths-write : (c l : ℕ) (b : Buffers) → b .«tx_buf» ≡ Held c l → Lengths b → Lengths (writing-from c l b)
+lengths-write c l b e g =
+    record {
+      whole = g .whole;
+      present = g .present;
+      tx = refl;
+      tx-under = ap (λ s. txLengthBad s (b .«tx_len»)) (sym e) ∙ g .tx;
+      rx = g .rx;
+      rx-under = refl;
+    }
+
+-- the invariant once a starter has done its part
+abbrev pub Begun : Page → Started → Type 0
+Begun k st = Inv (begun (st .transfer .kind) (st .transfer .write) (st .transfer .read) k) (st .driver)
+
+-- an access that passes the test, while no transfer is under way
+module _ (a : Arrived) (e : Driver) (k : Page) (m : Match (e .buffers) k) (g : Lengths (e .buffers)) (i : isIdle (e .buffers .under) ≡ true) where
+  abbrev ok : Access → Bool
+  ok x =
+      okAccess x (stateNo (e .state)) (has (e .buffers .«tx_buf»)) (has (e .buffers .«rx_buf»)) (flag sending (e .flags)) (flag handling (e .flags))
+      (leb 11 (a .result) && leb (a .result) 127)
+
+  none-keeps : T (ok none) → Begun k (refrains e)
+  none-keeps o =
+      record {
+        match = m;
+        fitted = subst (λ u. T (fit (kind u) (stateNo (e .state)) (has (e .buffers .«tx_buf»)) (has (e .buffers .«rx_buf»)) (flag sending (e .flags)) (flag handling (e .flags)))) (sym (under-idle (e .buffers .under) i)) o;
+        lengths = g;
+      }
+
+  pub register-keeps : (n x y : ℕ) → kindOf n ≡ 1 → eqb n 0 ≡ false
+      → T (fit access (stateNo (e .state)) (has (e .buffers .«tx_buf»)) (has (e .buffers .«rx_buf»)) (flag sending (e .flags)) (flag handling (e .flags)))
+      → Begun k (registerTransfer n x y e)
+  register-keeps n x y q z o =
+      subst (Begun k) (sym (register-begins k e m i n x y))
+      (record { match = rw z (begins-register (e .buffers) k m n q i); fitted = o; lengths = lengths-register (e .buffers) g })
+
+  reading-keeps : (n : ℕ) → n ≤ 127 → T (has (e .buffers .«rx_buf») && fit reading (stateNo (e .state)) (has (e .buffers .«tx_buf»)) false (flag sending (e .flags)) (flag handling (e .flags)))
+      → Begun k (frameRead n e)
+  reading-keeps n h o =
+      full (e .buffers .«rx_buf») (left (has (e .buffers .«rx_buf»)) _ o)
+      (λ c l q. subst (Begun k) (sym (ap (λ s. frameReadInto s n e) q ∙ read-begins k e m i n c l))
+      (record {
+        match = begins-read (e .buffers) k m c l (n + 2) q i;
+        fitted = right (has (e .buffers .«rx_buf»)) _ o;
+        lengths = lengths-read c l n (e .buffers) q h g;
+      }))
+
+  writing-keeps : T (ok writesFrame) → Begun k (frameWrite e)
+  writing-keeps o =
+      full (e .buffers .«tx_buf») (left (has (e .buffers .«tx_buf»)) _ o)
+      (λ c l q. subst (Begun k) (sym (ap (λ s. frameWriteFrom s e) q ∙ write-begins k e m i c l))
+      (record {
+        match = begins-write (e .buffers) k m c l (e .buffers .«spi_buf_len») q i;
+        fitted = right (has (e .buffers .«tx_buf»)) _ o;
+        lengths = lengths-write c l (e .buffers) q g;
+      }))
+
+  pub access-keeps : (x : Access) → T (ok x) → Begun k (accessed x a e)
+  access-keeps none o = none-keeps o
+  access-keeps (reads r) o = register-keeps 1 _ _ refl refl o
+  access-keeps (writes r v) o = register-keeps 2 _ _ refl refl o
+  access-keeps readsLength o = reading-keeps 0 (omega arith) o
+  access-keeps readsFrame o =
+      let f = leb 11 (a .result) && leb (a .result) 127 in
+      reading-keeps (a .result) (leb→le (a .result) 127 (right (leb 11 (a .result)) (leb (a .result) 127) (left f _ o))) (right f _ o)
+  access-keeps writesFrame o = writing-keeps o

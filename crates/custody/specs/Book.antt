@@ -1,0 +1,132 @@
+-- Document 01, "The book of custody": fed with each call's arguments, answer, actions and transfer, never with the driver's record. A
+-- fault stays once found; what is found faulty is entered all the same, so that there is nothing to choose.
+use Prim.Native.Nat.{ℕ, _+_}
+use mathlib.Core.Bool.{Bool, true, false, not, _&&_, _||_, cond}
+use mathlib.Core.List.{List, [], _∷_, _++_}
+use lib.Dec.{eqb, ltb}
+use lib.ListN.{getD, set, replicate}
+use Rattle.rf233.specs.Answer.{answerNo}
+use Rattle.rf233.specs.Place.{client, ownPlace, transmitPlace, receivePlace, wirePlace}
+use Rattle.rf233.specs.declared.action.Action.{Action}
+use Rattle.rf233.specs.declared.action.Action.the-variants.{Nothing, Power, Sent, Received, ConfigDone, Dropped, IrqMakeInput, IrqClear, IrqSetFloatingState, IrqEnableInterrupts, IrqDisableInterrupts, SleepMakeOutput, SleepSet, SleepClear, ResetMakeOutput, ResetClear, ResetSet}
+use Rattle.rf233.specs.declared.action.Item.{Item}
+use Rattle.rf233.specs.declared.answer.Reply.{Reply}
+
+-- each of the 19 buffers' places; the transfer under way by its kind (0 none) and its two buffers; the three counts; the fault
+pub record Page : Type 0 where
+  pub places : List ℕ
+  pub kind : ℕ
+  pub write : ℕ
+  pub read : ℕ
+  pub accepted : ℕ
+  pub handed : ℕ
+  pub dropped : ℕ
+  pub fault : Bool
+
+abbrev pub page : List ℕ → ℕ → ℕ → ℕ → ℕ → ℕ → ℕ → Bool → Page
+page l k w r a h d f =
+    record { places = l; kind = k; write = w; read = r; accepted = a; handed = h; dropped = d; fault = f }
+
+-- at first 16, 17 and 18 are in their own places, 0 to 15 with the client; no transfer; counts 0
+abbrev pub newPage : Page
+newPage = page (replicate 16 client ++ (ownPlace ∷ ownPlace ∷ ownPlace ∷ [])) 0 0 0 0 0 0 false
+
+-- a call, as far as the book looks at its arguments
+pub data Fed : Type 0 where
+  lendsTransmit lendsReceive : ℕ → Fed
+  completes other : Fed
+
+-- buffer b is not at place p; one above 18 is not at any
+abbrev pub missing : ℕ → ℕ → List ℕ → Bool
+missing b p l = ltb 18 b || not (eqb (getD l b client) p)
+
+-- `transmit` or receive buffer: from the client to the transmit or receive place; accepted + 1
+abbrev pub brought : ℕ → ℕ → Page → Page
+brought b p k =
+    page (set (k .places) b p) (k .kind) (k .write) (k .read) (k .accepted + 1) (k .handed) (k .dropped)
+    (k .fault || missing b client (k .places))
+
+-- where a transfer's two buffers go when it ends: own buffers to their own places, a frame write's other buffer to the transmit place, a
+-- frame read's to the receive place
+abbrev pub endPlaces : ℕ → ℕ → ℕ → List ℕ → List ℕ
+endPlaces k w r l =
+    cond (eqb k 3) (set (set l w ownPlace) r receivePlace)
+    (cond (eqb k 4) (set (set l w transmitPlace) r ownPlace) (set (set l w ownPlace) r ownPlace))
+
+-- completion: the transfer ends; with none it cannot
+abbrev pub ended : Page → Page
+ended k =
+    cond (eqb (k .kind) 0) (page (k .places) 0 0 0 (k .accepted) (k .handed) (k .dropped) true)
+    (page (endPlaces (k .kind) (k .write) (k .read) (k .places)) 0 0 0 (k .accepted) (k .handed) (k .dropped) (k .fault))
+
+-- what the call itself does
+abbrev pub called : Fed → Page → Page
+called (lendsTransmit b) k = brought b transmitPlace k
+called (lendsReceive b) k = brought b receivePlace k
+called completes k = ended k
+called other k = k
+
+-- a notice or a drop: buffer b goes from place p to the client; m and n are added to handed back and dropped
+abbrev pub given : ℕ → ℕ → ℕ → ℕ → Page → Page
+given b p m n k =
+    page (set (k .places) b client) (k .kind) (k .write) (k .read) (k .accepted) (k .handed + m) (k .dropped + n)
+    (k .fault || missing b p (k .places))
+
+-- an action: a sent notice or a drop from the transmit place, a received notice from the receive place; others nothing
+abbrev pub noted : Action → Page → Page
+noted Nothing k = k
+noted (Power v) k = k
+noted (Sent b a f) k = given b transmitPlace 1 0 k
+noted (Received b l v) k = given b receivePlace 1 0 k
+noted ConfigDone k = k
+noted (Dropped b) k = given b transmitPlace 0 1 k
+noted IrqMakeInput k = k
+noted IrqClear k = k
+noted IrqSetFloatingState k = k
+noted IrqEnableInterrupts k = k
+noted IrqDisableInterrupts k = k
+noted SleepMakeOutput k = k
+noted SleepSet k = k
+noted SleepClear k = k
+noted ResetMakeOutput k = k
+noted (ResetClear n) k = k
+noted ResetSet k = k
+
+-- the actions in order
+abbrev pub notedAll : List Item → Page → Page
+notedAll [] k = k
+notedAll (x ∷ more) k = notedAll more (noted (x .action) k)
+
+-- the places that a transfer of a kind takes its two buffers from
+abbrev pub writeFrom : ℕ → ℕ
+writeFrom k = cond (eqb k 4) transmitPlace ownPlace
+
+abbrev pub readFrom : ℕ → ℕ
+readFrom k = cond (eqb k 3) receivePlace ownPlace
+
+-- it names the right own buffers: 16 and 17 (register), 18 (frame)
+abbrev pub namesOwn : ℕ → ℕ → ℕ → Bool
+namesOwn k w r = cond (eqb k 3) (eqb w 18) (cond (eqb k 4) (eqb r 18) (eqb w 16 && eqb r 17))
+
+-- a transfer, none being under way: it takes the two buffers that it names
+abbrev pub taken : ℕ → ℕ → ℕ → Page → Page
+taken n w r k =
+    page (set (set (k .places) w wirePlace) r wirePlace) n w r (k .accepted) (k .handed) (k .dropped)
+    (k .fault || (not (eqb (k .kind) 0) || (ltb 4 n || (not (namesOwn n w r)
+    || (missing w (writeFrom n) (k .places) || missing r (readFrom n) (k .places))))))
+
+abbrev pub begun : ℕ → ℕ → ℕ → Page → Page
+begun n w r k = cond (eqb n 0) k (taken n w r k)
+
+-- refused: nothing changes; an action or a transfer given with it is a fault
+abbrev pub turnedDown : Reply → Page → Page
+turnedDown y k =
+    page (k .places) (k .kind) (k .write) (k .read) (k .accepted) (k .handed) (k .dropped)
+    (k .fault || (ltb 0 (y .actions .count) || ltb 0 (y .transfer .kind)))
+
+-- a call and what it yielded, entered: the call, its actions, its transfer
+unfoldable pub entered : Fed → Reply → Page → Page
+entered f y k =
+    cond (eqb (answerNo (y .answer)) 0)
+    (begun (y .transfer .kind) (y .transfer .write) (y .transfer .read) (notedAll (y .actions .items) (called f k)))
+    (turnedDown y k)

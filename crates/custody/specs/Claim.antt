@@ -1,0 +1,142 @@
+-- Demand 3 (document 01, "The book of custody"): one claim about any list of calls on any new driver, 15's too, with any pool at each call.
+-- The calls are the definitions that the public calls' promises equal (specs/Calls.antt), so that the claim speaks of the code.
+use Prim.Native.Nat.{ℕ, zero, suc, _+_, _<_}
+use mathlib.Core.Path.{_≡_}
+use mathlib.Core.Bool.{Bool, false, cond}
+use mathlib.Core.List.{List, [], _∷_}
+use lib.Dec.{eqb}
+use lib.IntN.{ℤ}
+use lib.ListN.{getD}
+use Rattle.rf233.specs.Action.{actions}
+use Rattle.rf233.specs.Answer.{quiet}
+use Rattle.custody.specs.Book.{Page, Fed, newPage, entered}
+use Rattle.custody.specs.Book.Fed.{lendsTransmit, lendsReceive, completes, other}
+use Rattle.rf233.specs.Calls.{startCall, stopCall, commitCall, firedCall, completionCall, transmitCall, receiveBufferCall, resetCall, setAddress, setAddressLong, setPan, setPower, setChannel, setClient}
+use Rattle.rf233.specs.Driver.{Client}
+use Rattle.rf233.specs.New.{newCall}
+use Rattle.rf233.specs.Place.{client, placesOf}
+use Rattle.rf233.specs.Record.{recordHas, one}
+use Rattle.rf233.specs.declared.answer.Outcome.{Outcome}
+use Rattle.rf233.specs.declared.driver.Buffers.{Buffers}
+use Rattle.rf233.specs.declared.driver.Driver.{Driver}
+use Rattle.rf233.specs.declared.driver.Under.{Under}
+use Rattle.rf233.specs.declared.driver.Under.the-variants.{Idle, Register, FrameRead, FrameWrite}
+
+-- the calls of demand 3, with their arguments; `query` stands for `initialize` and the methods that only read
+pub data Call : Type 0 where
+  start stop commit fire query : Call
+  complete : List ℕ → Call
+  transmit : ℕ → ℕ → ℕ → Call
+  receiveBuffer : ℕ → ℕ → Call
+  reset : Bool → Call
+  address pan channel : ℕ → Call
+  addressLong : List ℕ → Call
+  power : ℤ → Call
+  listener : Client → Bool → Call
+
+-- what a call yields on a driver, with this pool
+unfoldable pub yields : Driver → Call → List ℕ → Outcome
+yields d start p = startCall d p .outcome
+yields d stop p = stopCall d p .outcome
+yields d commit p = commitCall d p .outcome
+yields d fire p = firedCall d p .outcome
+yields d query p = quiet d (actions [])
+yields d (complete xs) p = completionCall d xs p .outcome
+yields d (transmit b l n) p = transmitCall d b l n p .outcome
+yields d (receiveBuffer b l) p = receiveBufferCall d b l
+yields d (reset v) p = resetCall d v
+yields d (address a) p = quiet (setAddress d a) (actions [])
+yields d (pan a) p = quiet (setPan d a) (actions [])
+yields d (channel c) p = setChannel d c
+yields d (addressLong l) p = quiet (setAddressLong d l) (actions [])
+yields d (power t) p = setPower d t
+yields d (listener x v) p = quiet (setClient x d v) (actions [])
+
+-- what the book looks at of a call's arguments
+abbrev pub fed : Call → Fed
+fed start = other
+fed stop = other
+fed commit = other
+fed fire = other
+fed query = other
+fed (complete xs) = completes
+fed (transmit b l n) = lendsTransmit b
+fed (receiveBuffer b l) = lendsReceive b
+fed (reset v) = other
+fed (address a) = other
+fed (pan a) = other
+fed (channel c) = other
+fed (addressLong l) = other
+fed (power t) = other
+fed (listener x v) = other
+
+-- a call and the pool that it is lent
+pub record Event : Type 0 where
+  pub call : Call
+  pub pool : List ℕ
+
+-- a driver, and the book of what it was called with and yielded; the book never sees the driver
+pub record World : Type 0 where
+  pub driver : Driver
+  pub book : Page
+
+unfoldable pub next : World → Event → World
+next w e =
+    let o = yields (w .driver) (e .call) (e .pool) in
+    record { driver = o .driver; book = entered (fed (e .call)) (o .reply) (w .book) }
+
+unfoldable pub run : World → List Event → World
+run w [] = w
+run w (e ∷ es) = run (next w e) es
+
+-- a new driver of any length and channel, 15's too, and a new book
+abbrev pub newWorld : ℕ → ℕ → World
+newWorld l c = record { driver = newCall l c .driver; book = newPage }
+
+-- the place p, and no other; with the client a buffer is at none
+abbrev pub only : ℕ → List ℕ
+only p = cond (eqb p client) [] (p ∷ [])
+
+-- how many of the buffers below n the record has
+abbrev pub heldBelow : Buffers → ℕ → ℕ
+heldBelow r zero = 0
+heldBelow r (suc n) = heldBelow r n + one (recordHas r n)
+
+-- the kind and the two buffers of the transfer under way; a register transfer's direction is not recorded
+abbrev pub kindOf : ℕ → ℕ
+kindOf k = cond (eqb k 2) 1 k
+
+abbrev pub underKind : Under → ℕ
+underKind Idle = 0
+underKind Register = 1
+underKind (FrameRead c l) = 3
+underKind (FrameWrite c l) = 4
+
+abbrev pub underWrite : Under → ℕ
+underWrite Idle = 0
+underWrite Register = 16
+underWrite (FrameRead c l) = 18
+underWrite (FrameWrite c l) = c
+
+abbrev pub underRead : Under → ℕ
+underRead Idle = 0
+underRead Register = 17
+underRead (FrameRead c l) = c
+underRead (FrameWrite c l) = 18
+
+-- what is claimed at the end of the list
+pub record Kept (w : World) : Type 0 where
+  -- no fault
+  pub faultless : w .book .fault ≡ false
+  -- the driver's record has each buffer where the book has it and nowhere else
+  pub placed : (b : ℕ) → b < 19 → placesOf (w .driver .buffers) b ≡ only (getD (w .book .places) b client)
+  -- a transfer is under way in the record exactly when in the book, with the same buffers
+  pub kind : kindOf (w .book .kind) ≡ underKind (w .driver .buffers .under)
+  pub write : w .book .write ≡ underWrite (w .driver .buffers .under)
+  pub read : w .book .read ≡ underRead (w .driver .buffers .under)
+  -- accepted = handed back + dropped + those of 0 to 15 in the driver's record
+  pub counted : w .book .accepted ≡ w .book .handed + w .book .dropped + heldBelow (w .driver .buffers) 16
+
+-- demand 3
+abbrev pub Custody : Type 0
+Custody = (l c : ℕ) (es : List Event) → Kept (run (newWorld l c) es)

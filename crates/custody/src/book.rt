@@ -1,0 +1,267 @@
+// The book of custody: where each buffer is, by what calls bring, answer, do and start. It never looks at the driver.
+use rf233::action::Action;
+use rf233::action::Actions;
+use rf233::action::Item;
+use rf233::answer::Reply;
+use rf233::answer::answer_number;
+use rf233::transfer::Transfer;
+ghost use mathlib.Core.Path.{_≡_};
+ghost use lib.ListN.{getD, set};
+ghost use Rattle.custody.specs.Book.{newPage, missing, brought, endPlaces, ended, called, given, noted, notedAll, writeFrom, readFrom, namesOwn, taken, begun, turnedDown, entered};
+ghost use Rattle.custody.specs.BookCode.{wrapped, pageOf, fedOf};
+ghost use Rattle.rf233.specs.Place.{client};
+
+// The 19 buffers' places (0 with the client, 1 its own, 2 transmit, 3 receive, 4 the transfer under way); the transfer under way by its
+// kind (0 none) and its two buffers; the counts; whether a fault was found.
+pub struct Book {
+    pub places: [u8; 19],
+    pub kind: u8,
+    pub write: u8,
+    pub read: u8,
+    pub accepted: u64,
+    pub handed: u64,
+    pub dropped: u64,
+    pub fault: bool,
+}
+
+// A call, as far as the book looks at its arguments.
+pub enum Fed {
+    LendsTransmit(u8),
+    LendsReceive(u8),
+    Completes,
+    Other,
+}
+
+pub fn new_book() -> Book
+    ensures { λ r. ⌜ pageOf r ≡ newPage ⌝ }
+{
+    Book {
+        places: [0, 0, 0, 0, 0, 0, 0, 0, 0, 0, 0, 0, 0, 0, 0, 0, 1, 1, 1],
+        kind: 0,
+        write: 0,
+        read: 0,
+        accepted: 0,
+        handed: 0,
+        dropped: 0,
+        fault: false,
+    }
+}
+
+// Where the buffer is, of those that there are.
+fn place_of(places: [u8; 19], buffer: u8) -> u8
+    ensures { λ r. ⌜ r ≡ getD places buffer client ⌝ }
+{
+    let at = buffer as usize;
+    if at < 19 { places[at] } else { 0 }
+}
+
+// The buffer is not at the place; one that there is not is at none.
+fn is_missing(places: [u8; 19], buffer: u8, place: u8) -> bool
+    ensures { λ r. ⌜ r ≡ missing buffer place places ⌝ }
+{
+    let here = place_of(places, buffer);
+    (18 < buffer) | (here != place)
+}
+
+fn put_at(places: [u8; 19], buffer: u8, place: u8) -> [u8; 19]
+    ensures { λ r. ⌜ r ≡ set places buffer place ⌝ }
+{
+    let mut next = places;
+    let at = buffer as usize;
+    if at < 19 {
+        next[at] = place;
+    }
+    next
+}
+
+// The client brings a buffer to a place.
+fn bring(book: Book, buffer: u8, place: u8) -> Book
+    ensures { λ r. ⌜ pageOf r ≡ wrapped (brought buffer place (pageOf book)) ⌝ }
+{
+    let mut next = book;
+    let before = book.places;
+    let wrong = is_missing(before, buffer, 0);
+    let places = put_at(before, buffer, place);
+    next.places = places;
+    next.accepted = std::num::wrapping_add_u64(book.accepted, 1);
+    next.fault = book.fault | wrong;
+    next
+}
+
+// Where the two buffers of a transfer that ends go.
+fn end_places(places: [u8; 19], kind: u8, write: u8, read: u8) -> [u8; 19]
+    ensures { λ r. ⌜ r ≡ endPlaces kind write read places ⌝ }
+{
+    if kind == 3 {
+        return put_at(put_at(places, write, 1), read, 3);
+    }
+    if kind == 4 {
+        return put_at(put_at(places, write, 2), read, 1);
+    }
+    put_at(put_at(places, write, 1), read, 1)
+}
+
+// The transfer under way ends. With none it cannot.
+fn end_transfer(book: Book) -> Book
+    ensures { λ r. ⌜ pageOf r ≡ wrapped (ended (pageOf book)) ⌝ }
+{
+    let mut next = book;
+    next.kind = 0;
+    next.write = 0;
+    next.read = 0;
+    if book.kind == 0 {
+        next.fault = true;
+        return next;
+    }
+    let before = book.places;
+    let places = end_places(before, book.kind, book.write, book.read);
+    next.places = places;
+    next
+}
+
+// What the call itself moves.
+fn enter_call(book: Book, call: Fed) -> Book
+    ensures { λ r. ⌜ pageOf r ≡ wrapped (called (fedOf call) (pageOf book)) ⌝ }
+{
+    match call {
+        Fed::LendsTransmit(b) => bring(book, b, 2),
+        Fed::LendsReceive(b) => bring(book, b, 3),
+        Fed::Completes => end_transfer(book),
+        Fed::Other => book,
+    }
+}
+
+// A buffer goes from a place back to the client, handed back or dropped.
+fn give(book: Book, buffer: u8, place: u8, handed: u64, dropped: u64) -> Book
+    ensures { λ r. ⌜ pageOf r ≡ wrapped (given buffer place handed dropped (pageOf book)) ⌝ }
+{
+    let mut next = book;
+    let before = book.places;
+    let wrong = is_missing(before, buffer, place);
+    let places = put_at(before, buffer, 0);
+    next.places = places;
+    next.handed = std::num::wrapping_add_u64(book.handed, handed);
+    next.dropped = std::num::wrapping_add_u64(book.dropped, dropped);
+    next.fault = book.fault | wrong;
+    next
+}
+
+fn enter_action(book: Book, action: Action) -> Book
+    ensures { λ r. ⌜ pageOf r ≡ wrapped (noted action (pageOf book)) ⌝ }
+{
+    match action {
+        Action::Sent(b, _, _) => give(book, b, 2, 1, 0),
+        Action::Received(b, _, _) => give(book, b, 3, 1, 0),
+        Action::Dropped(b) => give(book, b, 2, 0, 1),
+        Action::Nothing => book,
+        Action::Power(_) => book,
+        Action::ConfigDone => book,
+        Action::IrqMakeInput => book,
+        Action::IrqClear => book,
+        Action::IrqSetFloatingState => book,
+        Action::IrqEnableInterrupts => book,
+        Action::IrqDisableInterrupts => book,
+        Action::SleepMakeOutput => book,
+        Action::SleepSet => book,
+        Action::SleepClear => book,
+        Action::ResetMakeOutput => book,
+        Action::ResetClear(_) => book,
+        Action::ResetSet => book,
+    }
+}
+
+fn enter_item(book: Book, item: Item) -> Book
+    ensures { λ r. ⌜ pageOf r ≡ wrapped (noted (item .action) (pageOf book)) ⌝ }
+{
+    let action = item.action;
+    enter_action(book, action)
+}
+
+fn enter_actions(book: Book, actions: Actions) -> Book
+    ensures { λ r. ⌜ pageOf r ≡ wrapped (notedAll (actions .items) (pageOf book)) ⌝ }
+{
+    let items = actions.items;
+    let one = enter_item(book, items[0]);
+    let two = enter_item(one, items[1]);
+    let three = enter_item(two, items[2]);
+    let four = enter_item(three, items[3]);
+    let five = enter_item(four, items[4]);
+    enter_item(five, items[5])
+}
+
+// It names the right own buffers: 16 and 17 for a register, 18 for a frame.
+fn names_own(kind: u8, write: u8, read: u8) -> bool
+    ensures { λ r. ⌜ r ≡ namesOwn kind write read ⌝ }
+{
+    if kind == 3 {
+        return write == 18;
+    }
+    if kind == 4 {
+        return read == 18;
+    }
+    (write == 16) & (read == 17)
+}
+
+// The places that a transfer of a kind takes its two buffers from.
+fn write_from(kind: u8) -> u8
+    ensures { λ r. ⌜ r ≡ writeFrom kind ⌝ }
+{
+    if kind == 4 { 2 } else { 1 }
+}
+
+fn read_from(kind: u8) -> u8
+    ensures { λ r. ⌜ r ≡ readFrom kind ⌝ }
+{
+    if kind == 3 { 3 } else { 1 }
+}
+
+// The transfer takes its two buffers from where they are to be.
+fn take_buffers(book: Book, kind: u8, write: u8, read: u8) -> Book
+    ensures { λ r. ⌜ pageOf r ≡ wrapped (taken kind write read (pageOf book)) ⌝ }
+{
+    let before = book.places;
+    let away = is_missing(before, write, write_from(kind))
+        | is_missing(before, read, read_from(kind));
+    let wrong = (book.kind != 0) | ((4 < kind) | (!names_own(kind, write, read) | away));
+    let places = put_at(put_at(before, write, 4), read, 4);
+    let mut next = book;
+    next.places = places;
+    next.kind = kind;
+    next.write = write;
+    next.read = read;
+    next.fault = book.fault | wrong;
+    next
+}
+
+fn enter_transfer(book: Book, transfer: Transfer) -> Book
+    ensures { λ r. ⌜ pageOf r ≡ wrapped (begun (transfer .kind) (transfer .write) (transfer .read) (pageOf book)) ⌝ }
+{
+    if transfer.kind == 0 {
+        return book;
+    }
+    take_buffers(book, transfer.kind, transfer.write, transfer.read)
+}
+
+// A refused call changes nothing, and comes with nothing.
+fn turn_down(book: Book, reply: Reply) -> Book
+    ensures { λ r. ⌜ pageOf r ≡ wrapped (turnedDown reply (pageOf book)) ⌝ }
+{
+    let actions = reply.actions;
+    let transfer = reply.transfer;
+    let mut next = book;
+    next.fault = book.fault | ((0 < actions.count) | (0 < transfer.kind));
+    next
+}
+
+// A call and what it yielded: the call itself, its actions, its transfer.
+pub fn enter(book: Book, call: Fed, reply: Reply) -> Book
+    ensures { λ r. ⌜ pageOf r ≡ wrapped (entered (fedOf call) reply (pageOf book)) ⌝ }
+{
+    let answer = reply.answer;
+    let actions = reply.actions;
+    let transfer = reply.transfer;
+    if answer_number(answer) == 0 {
+        return enter_transfer(enter_actions(enter_call(book, call), actions), transfer);
+    }
+    turn_down(book, reply)
+}
