@@ -1,8 +1,8 @@
 // The three lines at the end of the input: the book's counts, where the book has each buffer, and where the driver's record has it.
 use crate::run::Run;
 use custody::book::Book;
-use rf233::driver::Buffers;
 use rf233::place::place_in_record;
+use rf233_core::driver::Buffers;
 use script::print::byte_fields;
 use script::print::field;
 use script::print::line_end;

@@ -1,9 +1,9 @@
 // A run as a value: what a script has changed so far, but for the area's bytes.
 use custody::book::Book;
 use custody::book::new_book;
-use rf233::answer::Outcome;
 use rf233::create::new;
-use rf233::driver::Driver;
+use rf233_core::answer::Outcome;
+use rf233_core::driver::Driver;
 
 // How many bytes of the area the calls are lent at first.
 const POOL_LENGTH: usize = 3040;

@@ -1,8 +1,3 @@
-pub mod Conditions
-pub mod StateTests
-pub mod Onward
-pub mod Keys
-pub mod Tables
 pub mod PoolLaws
 pub mod Sound
 pub mod Accepted
@@ -12,5 +7,3 @@ pub mod StarredProofs
 pub mod OwnBuffers
 pub mod StarredSteps
 pub mod StarredOccur
-pub mod Logic
-pub mod Fit

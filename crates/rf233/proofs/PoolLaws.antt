@@ -8,9 +8,9 @@ use native.Mathlib.Omega.{arith}
 use lib.ListN.{length, take, drop, length-append, length-take, length-drop, length-set, take-append-drop}
 use lib.Seq.{take-length, drop-append-le, drop-drop}
 use borrow.Rule.Slice.PartMut.{midOf, putMid}
-use Rattle.rf233.specs.Choice.{pick}
+use Rattle.rf233_core.specs.Choice.{pick}
 use Rattle.rf233.specs.Pool.{startOf, written, copied}
-use Rattle.rf233.specs.declared.transfer.Transfer.{Transfer}
+use Rattle.rf233_core.specs.declared.transfer.Transfer.{Transfer}
 
 -- a choice between lists has the chosen one's length, and one between equals is that
 pick-length : (v : Bool) (p q : List ℕ) → length (pick v p q) ≡ pick v (length p) (length q)

@@ -4,16 +4,16 @@ use mathlib.Core.Bool.{Bool, true, false, not, _&&_, _||_, cond}
 use mathlib.Core.List.{List, [], _∷_}
 use lib.Dec.{eqb, leb, ltb}
 use lib.ListN.{length}
-use Rattle.rf233.specs.Choice.{oneOf}
-use Rattle.rf233.specs.Completion.{has}
+use Rattle.rf233_core.specs.Choice.{oneOf}
+use Rattle.rf233_core.specs.Completion.{has}
 use Rattle.rf233.specs.Pool.{poolLength}
-use Rattle.rf233.specs.State.{stateNo}
-use Rattle.rf233.specs.declared.driver.Buffers.{Buffers}
-use Rattle.rf233.specs.declared.driver.Driver.{Driver}
-use Rattle.rf233.specs.declared.driver.Slot.{Slot}
-use Rattle.rf233.specs.declared.driver.Slot.the-variants.{Empty, Held}
-use Rattle.rf233.specs.declared.driver.Under.{Under}
-use Rattle.rf233.specs.declared.driver.Under.the-variants.{Idle, Register, FrameRead, FrameWrite}
+use Rattle.rf233_core.specs.State.{stateNo, stateFrame}
+use Rattle.rf233_core.specs.declared.driver.Buffers.{Buffers}
+use Rattle.rf233_core.specs.declared.driver.Driver.{Driver}
+use Rattle.rf233_core.specs.declared.driver.Slot.{Slot}
+use Rattle.rf233_core.specs.declared.driver.Slot.the-variants.{Empty, Held}
+use Rattle.rf233_core.specs.declared.driver.Under.{Under}
+use Rattle.rf233_core.specs.declared.driver.Under.the-variants.{Idle, Register, FrameRead, FrameWrite}
 
 -- the place has buffer b
 abbrev pub slotHas : Slot → ℕ → Bool
@@ -117,10 +117,6 @@ frameNo Idle = 0
 frameNo Register = 0
 frameNo (FrameRead c l) = 1
 frameNo (FrameWrite c l) = 2
-
--- the frame transfer that a state names: 34 a frame write, 63 and 65 a frame read
-abbrev pub stateFrame : ℕ → ℕ
-stateFrame n = cond (eqb n 34) 2 (cond (oneOf (63 ∷ 65 ∷ []) n) 1 0)
 
 -- clause: a frame transfer that is not of the kind the state names, or with interrupt handling set; or such a state without its transfer
 abbrev pub frameUnfit : Under → ℕ → Bool → Bool

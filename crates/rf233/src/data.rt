@@ -1,25 +1,25 @@
 // The Rust's `RadioData`: a frame to send, and a buffer to receive into. A client names its buffer by its place in the pool; numbers
 // are cut to a byte only once they are known to fit one.
-use crate::answer::Answer;
-use crate::answer::Outcome;
-use crate::answer::refuse;
-use crate::driver::Buffers;
-use crate::driver::Driver;
-use crate::driver::Slot;
 use crate::guard::finish;
 use crate::guard::pool_fault;
-use crate::interrupt::is_held;
 use crate::pool::put_length;
 use crate::record::receiving_slot;
 use crate::record::record_has;
 use crate::record::sending_slot;
-use crate::state::InternalState;
-use crate::state::state_number;
-use crate::step::state_transition_read;
-use crate::step::stay;
-use crate::step::with_buffers;
-use crate::step::with_flags;
 use rf233_const::register::RF233Register;
+use rf233_core::answer::Answer;
+use rf233_core::answer::Outcome;
+use rf233_core::answer::refuse;
+use rf233_core::driver::Buffers;
+use rf233_core::driver::Driver;
+use rf233_core::driver::Slot;
+use rf233_core::interrupt::is_held;
+use rf233_core::state::InternalState;
+use rf233_core::state::state_number;
+use rf233_core::step::state_transition_read;
+use rf233_core::step::stay;
+use rf233_core::step::with_buffers;
+use rf233_core::step::with_flags;
 ghost use mathlib.Core.Path.{_≡_};
 ghost use Prim.Native.Nat.{_+_, _≤_};
 ghost use lib.Dec.{leb};

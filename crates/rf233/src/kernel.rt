@@ -1,20 +1,20 @@
 // What the kernel brings: a completion with its arrived bytes, and a firing of the interrupt pin.
-use crate::answer::Answer;
-use crate::answer::Outcome;
-use crate::answer::Reply;
-use crate::answer::refuse;
-use crate::arrived::Arrived;
-use crate::completion::complete;
-use crate::driver::Driver;
 use crate::guard::finish;
 use crate::guard::pool_fault;
-use crate::interrupt::handle_interrupt;
 use crate::pool::copy_arrived;
 use crate::pool::length_byte;
 use crate::pool::read_buffer;
 use crate::pool::shorter_length;
-use crate::transfer::is_idle;
 use rf233_const::status::status_of;
+use rf233_core::answer::Answer;
+use rf233_core::answer::Outcome;
+use rf233_core::answer::Reply;
+use rf233_core::answer::refuse;
+use rf233_core::arrived::Arrived;
+use rf233_core::completion::complete;
+use rf233_core::driver::Driver;
+use rf233_core::interrupt::handle_interrupt;
+use rf233_core::transfer::is_idle;
 ghost use mathlib.Core.Path.{_≡_};
 ghost use Rattle.rf233.specs.Calls.{completionCall, firedCall};
 

@@ -1,30 +1,12 @@
-// The AT86RF233 driver: states, settings, buffers, transfers and steps, by value, over a lent pool. The public modules hold the calls
-// and the types that they take and yield; the others are the steps behind them.
-pub mod action;
-pub mod answer;
-mod arrived;
-mod case;
-mod commit;
-mod completion;
+// The AT86RF233 driver's calls, over a lent pool. The public modules hold the calls; the others what stands behind them: the pool,
+// and the record that refusal 12 asks of.
 pub mod config;
 pub mod create;
 pub mod data;
-pub mod driver;
 pub mod fired;
 mod guard;
-mod interrupt;
 pub mod kernel;
 pub mod listeners;
 pub mod place;
 mod pool;
-pub mod power;
-mod ready;
-mod receive;
 mod record;
-mod sleep;
-mod start;
-mod startup;
-pub mod state;
-mod step;
-pub mod transfer;
-mod transmit;

@@ -3,7 +3,7 @@
 
 use std::fmt;
 use std::io::{Read, Write};
-use std::process::{Child, Command, Stdio};
+use std::process::{Child, Command, ExitCode, Stdio};
 use std::sync::mpsc;
 use std::thread;
 use std::time::Duration;
@@ -88,4 +88,17 @@ fn read(child: &mut Child) -> Option<Vec<u8>> {
         let _ = sender.send(output);
     });
     receiver.recv_timeout(LIMIT).ok()
+}
+
+/// The exit status of a program that compares: 0 no difference, 1 a difference, 2 the
+/// program itself could not go on, with the reason on standard error.
+pub fn exit(program: &str, same: Result<bool, String>) -> ExitCode {
+    match same {
+        Ok(true) => ExitCode::SUCCESS,
+        Ok(false) => ExitCode::from(1),
+        Err(error) => {
+            eprintln!("{program}: {error}");
+            ExitCode::from(2)
+        }
+    }
 }

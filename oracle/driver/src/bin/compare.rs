@@ -27,14 +27,10 @@ struct Arguments {
 }
 
 fn main() -> ExitCode {
-    match arguments().and_then(|arguments| compared(&arguments)) {
-        Ok(true) => ExitCode::SUCCESS,
-        Ok(false) => ExitCode::from(1),
-        Err(error) => {
-            eprintln!("compare: {error}");
-            ExitCode::from(2)
-        }
-    }
+    command::exit(
+        "compare",
+        arguments().and_then(|arguments| compared(&arguments)),
+    )
 }
 
 fn arguments() -> Result<Arguments, String> {

@@ -13,21 +13,24 @@ use oracle::options::Options;
 use oracle::progress::Progress;
 use oracle::session::Session;
 use oracle::shrink::shrink;
-use oracle::walk::{Batch, Bounds, Walk};
+use oracle::walk::{Batch, Bounds, Sample, Walk};
 
 const USAGE: &str = "usage: walk [--limit N] [--few-listeners] [--without-read-out]
-            [--all-pairs] [--keep FILE] [COMMAND...]
+            [--all-pairs] [--keep FILE] [--sample N FILE] [COMMAND...]
   COMMAND reads a script on its standard input and writes what the calls yield; without
   one the walk is only counted.
   --limit N: at most N control states.
   --few-listeners: the listeners are all present or all absent.
   --without-read-out: no step is followed by what shows the driver's memory.
   --all-pairs: every status comes with every result, in all states.
-  --keep FILE: the script that shows a difference is written there.";
+  --keep FILE: the script that shows a difference is written there.
+  --sample N FILE: the next steps of one control state in N are written there, as a
+  script.";
 
 struct Arguments {
     bounds: Bounds,
     keep: Option<String>,
+    sample: Option<(u64, String)>,
     command: Vec<String>,
 }
 
@@ -35,19 +38,13 @@ struct Arguments {
 type Answered = (Batch, Result<Ran, String>);
 
 fn main() -> ExitCode {
-    match arguments().and_then(|arguments| walked(&arguments)) {
-        Ok(true) => ExitCode::SUCCESS,
-        Ok(false) => ExitCode::from(1),
-        Err(error) => {
-            eprintln!("walk: {error}");
-            ExitCode::from(2)
-        }
-    }
+    command::exit("walk", arguments().and_then(|arguments| walked(&arguments)))
 }
 
 fn arguments() -> Result<Arguments, String> {
     let mut options = Options::of_program();
     let mut keep = None;
+    let mut sample = None;
     let mut bounds = Bounds {
         states: u64::MAX,
         few_listeners: false,
@@ -61,6 +58,7 @@ fn arguments() -> Result<Arguments, String> {
             "--without-read-out" => bounds.without_read_out = true,
             "--all-pairs" => bounds.all_pairs = true,
             "--keep" => keep = Some(options.word(&option)?),
+            "--sample" => sample = Some((options.number(&option)?, options.word(&option)?)),
             _ => return Err(format!("no option {option}\n{USAGE}")),
         }
     }
@@ -68,6 +66,7 @@ fn arguments() -> Result<Arguments, String> {
     Ok(Arguments {
         bounds,
         keep,
+        sample,
         command,
     })
 }
@@ -78,6 +77,7 @@ fn walked(arguments: &Arguments) -> Result<bool, String> {
     let begun = Instant::now();
     let mut walk = Walk::new(arguments.bounds);
     let mut progress = Progress::new("walk");
+    let mut sample = sample(arguments)?;
     let mut running: Option<JoinHandle<Answered>> = None;
     loop {
         let batch = walk.batch()?;
@@ -87,10 +87,16 @@ fn walked(arguments: &Arguments) -> Result<bool, String> {
             return Ok(false);
         }
         let Some(batch) = batch else { break };
+        if let Some(sample) = &mut sample {
+            sample.take(&batch)?;
+        }
         if !arguments.command.is_empty() {
             running = Some(started(&arguments.command, batch));
         }
         progress.say(|| figures(&walk, begun));
+    }
+    if let Some(sample) = sample {
+        sample.finish()?;
     }
     let found = match arguments.command.as_slice() {
         [] => "counted",
@@ -98,6 +104,13 @@ fn walked(arguments: &Arguments) -> Result<bool, String> {
     };
     println!("{found}: {}", figures(&walk, begun));
     Ok(true)
+}
+
+fn sample(arguments: &Arguments) -> Result<Option<Sample>, String> {
+    let wished = arguments.sample.clone();
+    wished
+        .map(|(every, name)| Sample::new(every, name))
+        .transpose()
 }
 
 fn figures(walk: &Walk, begun: Instant) -> String {

@@ -33,14 +33,22 @@ impl Batch {
         write!(self.judge, "{}", session.ending()).expect("memory does not fail");
     }
 
+    pub fn parts(&self) -> impl Iterator<Item = &[Line]> {
+        (0..self.parts.len()).map(|part| self.part(part))
+    }
+
+    fn part(&self, part: usize) -> &[Line] {
+        let begins = |part: usize| self.parts.get(part).map(|(line, _)| *line);
+        let first = begins(part).unwrap_or(0);
+        let end = begins(part + 1).unwrap_or(self.lines.len());
+        &self.lines[first..end]
+    }
+
     /// The part in which another output first differs from the Rust's.
     pub fn part_that_differs(&self, output: &[u8]) -> &[Line] {
         let pairs = self.judge.bytes().zip(output);
         let same = pairs.take_while(|(judge, other)| judge == *other).count();
         let after = self.parts.partition_point(|(_, byte)| *byte <= same);
-        let begins = |part: usize| self.parts.get(part).map(|(line, _)| *line);
-        let first = begins(after.saturating_sub(1)).unwrap_or(0);
-        let end = begins(after).unwrap_or(self.lines.len());
-        &self.lines[first..end]
+        self.part(after.saturating_sub(1))
     }
 }

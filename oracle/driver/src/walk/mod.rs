@@ -4,6 +4,7 @@
 mod batch;
 mod control;
 mod read_out;
+mod sample;
 mod steps;
 
 use std::collections::HashSet;
@@ -14,6 +15,7 @@ use crate::session::{Session, Stop};
 pub use batch::Batch;
 use control::Control;
 use read_out::ReadOut;
+pub use sample::Sample;
 
 /// A batch is closed when it has so many lines: few enough for a command's time limit.
 const BATCH_LINES: usize = 60_000;

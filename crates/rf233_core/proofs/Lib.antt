@@ -1,0 +1,7 @@
+pub mod Conditions
+pub mod StateTests
+pub mod Onward
+pub mod Keys
+pub mod Tables
+pub mod Logic
+pub mod Fit

@@ -1,0 +1,11 @@
+pub mod Choice
+pub mod State
+pub mod Driver
+pub mod Action
+pub mod Transfer
+pub mod Answer
+pub mod Power
+pub mod Value
+pub mod Rows
+pub mod Engine
+pub mod Completion
