@@ -6,7 +6,7 @@ use Prim.Native.Nat.{ℕ, _+_, _≤_, _<_}
 use native.Mathlib.Omega.{arith}
 use lib.Dec.{T, eqb, leb, ltb}
 use lib.IntN.{ℤ}
-use borrow.Author.Tests.{le-leb, leb-true, lt-leb, ltb-false, leb-false}
+use borrow.Author.Tests.{le-leb, leb-true, lt-leb, ltb-false, leb-false, not-true}
 use Rattle.rf233_core.specs.Action.{actions}
 use Rattle.rf233_core.specs.Answer.{answerNo, stepOf, quiet, refused}
 use Rattle.custody.specs.Book.{Page, Fed, called, entered, ended, begun, notedAll, turnedDown}
@@ -41,6 +41,7 @@ use Rattle.custody.proofs.Engine.{asks, rest-handles, ready-keeps, resu
 use Rattle.rf233_core.proofs.Fit.{Kind, kind, fit, joins, frameOf, doneNo, return-fits, rx-empty, tx-empty, fit-frame, fit-places, join-same, join-32, join-30, join-45, join-33, unsent, tx-fits, rx-fits}
 use Rattle.rf233_core.proofs.Fit.Kind.{nothing, access, reading, writing}
 use Rattle.rf233_core.proofs.Logic.{branch, left, right, pair, is-true, is-false}
+use Rattle.custody.specs.Ranges.{transferFits, actionsFit, replyFits}
 use Rattle.custody.proofs.Match.{Match, ends, refuses, lends-tx, lends-rx, once, somewhere}
 use Rattle.rf233.proofs.Sound.{both-left, both-right}
 
@@ -95,7 +96,7 @@ sound k d v =
 -- ---- a firing during a transfer is remembered
 busy-handles : (k : Page) (d : Driver) → Inv k d → isIdle (d .buffers .under) ≡ false → After k (handleInterrupt d)
 unfolding handleInterrupt pick
-busy-handles k d v i = rw i (record { inv = record { match = v .match; fitted = v .fitted; lengths = v .lengths } })
+busy-handles k d v i = rw i (record { inv = record { match = v .match; fitted = v .fitted; lengths = v .lengths }; spans = tt; shows = tt })
 
 -- ---- a completion
 
@@ -190,7 +191,7 @@ asks-any k d v e q n x y z w o = go (isIdle (d .buffers .under)) refl
     go true i = asks k d v i e q n x y z w (subst (λ c. T (fit c (stateNo (e .state)) (has (d .buffers .«tx_buf»)) (has (d .buffers .«rx_buf»)) (flag sending (e .flags)) (flag handling (e .flags)))) (joins-idle (d .buffers .under) i) o)
     go false i =
         subst (λ st. After k (stepOf st (actions []))) (sym (register-refrains e n x y (ap (λ b. isIdle (b .under)) q ∙ i)))
-        (record { inv = others k d e v q (subst (λ c. T (fit c (stateNo (e .state)) (has (d .buffers .«tx_buf»)) (has (d .buffers .«rx_buf»)) (flag sending (e .flags)) (flag handling (e .flags)))) (joins-busy (d .buffers .under) i) o) })
+        (record { inv = others k d e v q (subst (λ c. T (fit c (stateNo (e .state)) (has (d .buffers .«tx_buf»)) (has (d .buffers .«rx_buf»)) (flag sending (e .flags)) (flag handling (e .flags)))) (joins-busy (d .buffers .under) i) o); spans = tt; shows = tt })
 
 -- a firing
 fires-any : (k : Page) (d : Driver) → Inv k d → After k (handleInterrupt d)
@@ -202,25 +203,39 @@ fires-any k d v = go (isIdle (d .buffers .under)) refl
 
 -- ---- the calls
 
--- the invariant once a call is entered into the book
-abbrev Entered : Fed → Page → Outcome → Type 0
-Entered f k o = Inv (entered f (o .reply) k) (o .driver)
+-- the invariant once a call is entered into the book, and the ranges of its reply
+pub record Entered (f : Fed) (k : Page) (o : Outcome) : Type 0 where
+  pub inv : Inv (entered f (o .reply) k) (o .driver)
+  pub fits : T (replyFits (o .reply))
 
 -- a step that was taken
 took : (f : Fed) (k : Page) (o : Outcome) → IsDone o → After (called f k) o → Entered f k o
 unfolding entered
-took f k o e w = rw e (w .inv)
+took f k o e w =
+    record {
+      inv = rw e (w .inv);
+      fits = rw e (pair (transferFits (o .reply .transfer)) (actionsFit (o .reply .actions .items)) (w .spans) (w .shows));
+    }
+
+-- an answer that refuses a call of a client
+abbrev refusal : Answer → Bool
+refusal x = not (eqb (answerNo x) 0) && leb (answerNo x) 14
 
 -- a refusal, from a driver that differs from d in flags at most
-turned : (f : Fed) (k : Page) (x : Answer) (d : Driver) → eqb (answerNo x) 0 ≡ false → Inv k d → Entered f k (refused x d)
+turned : (f : Fed) (k : Page) (x : Answer) (d : Driver) → refusal x ≡ true → Inv k d → Entered f k (refused x d)
 unfolding entered
-turned f k x d e v = rw e (record { match = refuses (d .buffers) k (v .match) (refused x d .reply) refl refl; fitted = v .fitted; lengths = v .lengths })
+turned f k x d e v =
+    let none = not-true (eqb (answerNo x) 0) (both-left (not (eqb (answerNo x) 0)) _ e) in
+    record {
+      inv = rw none (record { match = refuses (d .buffers) k (v .match) (refused x d .reply) refl refl; fitted = v .fitted; lengths = v .lengths });
+      fits = rw (both-right (not (eqb (answerNo x) 0)) (leb (answerNo x) 14) e) tt;
+    }
 
 -- a step that starts nothing and hands nothing back
 stays : (k : Page) (d e : Driver) → Inv k d → e .buffers ≡ d .buffers
     → T (fit (kind (d .buffers .under)) (stateNo (e .state)) (has (d .buffers .«tx_buf»)) (has (d .buffers .«rx_buf»)) (flag sending (e .flags)) (flag handling (e .flags)))
     → After k (quiet e (actions []))
-stays k d e v q o = record { inv = others k d e v q o }
+stays k d e v q o = record { inv = others k d e v q o; spans = tt; shows = tt }
 
 -- the place that a frame transfer's buffer came from
 sent-is : (u : Under) → has (rec.sending u) ≡ eqb (frameOf (kind u)) 2
@@ -325,7 +340,7 @@ module _ (k : Page) (d : Driver) (v : Inv k d) where
   unfolding resetCall
   reset-keeps b =
       branch (Entered other k) _ _ _
-      (λ y. took other k _ refl (record { inv = others k d (flagged sending false d) v refl (unsent .gives _ _ _ _ _ _ (v .fitted) tt) }))
+      (λ y. took other k _ refl (record { inv = others k d (flagged sending false d) v refl (unsent .gives _ _ _ _ _ _ (v .fitted) tt); spans = tt; shows = tt }))
       (λ y. turned other k Configure d refl v)
 
   setting-keeps : (e : Driver) → e .buffers ≡ d .buffers → e .state ≡ d .state → e .flags ≡ d .flags → Entered other k (quiet e (actions []))
@@ -400,7 +415,7 @@ module _ (k : Page) (d : Driver) (v : Inv k d) where
       branch (After (called (lendsTransmit b) k)) _ _ _
       (λ z. asks-any _ e w (inState «TX_STATUS_PRECHECK1» e) refl 1 _ _ refl refl
       (join-33 .gives _ _ _ _ _ _ (v .fitted) (pair (not (t || (eqb (frameOf (kind u)) 2 || flag sending (d .flags)))) (eqb (stateNo (d .state)) 29) free (right (not (flag hearing (d .flags))) (eqb (stateNo (d .state)) 29) z))))
-      (λ z. record { inv = w })
+      (λ z. record { inv = w; spans = tt; shows = tt })
 
   transmit-keeps : (b l n : ℕ) (p : List ℕ) → Yields (lendsTransmit b) (transmitCall d b l n p)
   unfolding transmitCall
@@ -432,6 +447,8 @@ module _ (k : Page) (d : Driver) (v : Inv k d) where
           fitted = rx-fits .gives _ _ _ _ _ _ (v .fitted) (subst (λ x. T (not (t || x))) (received-is u) y);
           lengths = lengths-received b l (nor-right (ltb 15 b) (ltb 160 l) h) s;
         };
+        spans = tt;
+        shows = tt;
       })))))
 
   -- every call

@@ -6,7 +6,7 @@ use mathlib.Core.List.{List, [], _∷_, _++_, map}
 use Prim.Native.Nat.{ℕ, zero, suc, _+_, _≤_, suc-le-suc}
 use native.Mathlib.Omega.{arith}
 use lib.Dec.{T, eqb, leb, leb→le}
-use borrow.Author.Tests.{le-leb, leb-true}
+use borrow.Author.Tests.{le-leb, leb-true, ltb-false, not-false}
 use lib.ListN.{length, take, replicate}
 use native.Mathlib.Nat.{not-suc-le-zero, le-of-suc-le-suc, le-refl, le-step}
 use Rattle.rf233_const.specs.Bits.{bitSet}
@@ -22,7 +22,7 @@ use Rattle.rf233_core.specs.Driver.Flag.{sending, handling, crcValid}
 use Rattle.rf233_core.specs.Driver.Setting.{put, putCrc}
 use Rattle.rf233_core.specs.Engine.{bufferIn, perform, accessed, shown, handed, entering, withoutTx, withoutRx, own, caseOf}
 use Rattle.rf233.specs.Record as rec
-use Rattle.rf233.specs.Record.{within, txLengthBad, rxLengthBad, lengthBad}
+use Rattle.rf233.specs.Record.{within, slotAbove, txLengthBad, rxLengthBad, lengthBad}
 use Rattle.rf233_core.specs.Rows.{Access, Shown, Next, Row, holds, eval, treeAt}
 use Rattle.rf233_core.specs.Rows.Test.{lengthFits}
 use Rattle.rf233_core.specs.Rows.Access.{none, reads, writes, readsLength, readsFrame, writesFrame}
@@ -45,8 +45,10 @@ use Rattle.rf233_core.specs.declared.driver.Slot.{Slot}
 use Rattle.rf233_core.specs.declared.driver.Slot.the-variants.{Empty, Held}
 use Rattle.rf233_core.proofs.Fit.Kind.{nothing, access, reading, writing}
 use Rattle.rf233_core.proofs.Fit.{Kind, kind, fit, final, joins, harmless, okShown, txLeft, rxLeft, nextNo, okAccess, okRow}
-use Rattle.rf233.proofs.Sound.{both-left}
+use Rattle.rf233.proofs.Sound.{both-left, both-right}
 use Rattle.rf233_core.proofs.Logic.{branch, left, right, pair}
+use Rattle.custody.specs.Ranges.{transferFits, actionFits, actionsFit}
+use Rattle.custody.proofs.BookLaws.{register-kind}
 use Rattle.custody.proofs.Match.{Match, noFrame, begins-register, begins-read, begins-write, ends, gives-tx, gives-rx, lends-tx, lends-rx, refuses}
 use Rattle.rf233.specs.Place.{transmitPlace, receivePlace}
 
@@ -84,9 +86,11 @@ pub record Inv (k : Page) (d : Driver) : Type 0 where
 abbrev pub entering-step : Reply → Page → Page
 entering-step y k = begun (y .transfer .kind) (y .transfer .write) (y .transfer .read) (notedAll (y .actions .items) k)
 
--- the invariant after a step
+-- the invariant after a step, and that what it starts and shows is within its ranges
 pub record After (k : Page) (o : Outcome) : Type 0 where
   pub inv : Inv (entering-step (o .reply) k) (o .driver)
+  pub spans : T (transferFits (o .reply .transfer))
+  pub shows : T (actionsFit (o .reply .actions .items))
 
 -- ---- actions
 
@@ -125,6 +129,60 @@ quietly SleepClear k h = refl
 quietly ResetMakeOutput k h = refl
 quietly (ResetClear n) k h = refl
 quietly ResetSet k h = refl
+
+-- actions that are within their ranges are so in the filled list
+abbrev fitting : List Action → Bool
+fitting [] = true
+fitting (x ∷ more) = actionFits x && fitting more
+
+nothing-fits : (n m : ℕ) → T (actionsFit (map item (take n (replicate m Nothing))))
+nothing-fits zero m = tt
+nothing-fits (suc n) zero = tt
+nothing-fits (suc n) (suc m) = nothing-fits n m
+
+pub filled-fits : (n m : ℕ) (l : List Action) → T (fitting l) → T (actionsFit (map item (take n (l ++ replicate m Nothing))))
+filled-fits n m [] h = nothing-fits n m
+filled-fits zero m (x ∷ l) h = tt
+filled-fits (suc n) m (x ∷ l) h = pair (actionFits x) _ (left (actionFits x) (fitting l) h) (filled-fits n m l (right (actionFits x) (fitting l) h))
+
+-- an action that hands nothing back is within its range
+quiet-fits : (x : Action) → T (harmless x) → T (actionFits x)
+quiet-fits Nothing h = tt
+quiet-fits (Power v) h = tt
+quiet-fits (Sent b a e) h = tt
+quiet-fits (Received b l v) h = tt
+quiet-fits ConfigDone h = tt
+quiet-fits (Dropped b) h = absurd h
+quiet-fits IrqMakeInput h = tt
+quiet-fits IrqClear h = tt
+quiet-fits IrqSetFloatingState h = tt
+quiet-fits IrqEnableInterrupts h = tt
+quiet-fits IrqDisableInterrupts h = tt
+quiet-fits SleepMakeOutput h = tt
+quiet-fits SleepSet h = tt
+quiet-fits SleepClear h = tt
+quiet-fits ResetMakeOutput h = tt
+quiet-fits (ResetClear n) h = tt
+quiet-fits ResetSet h = tt
+
+-- a buffer in a client's place is below 16
+client-below : (s : Slot) → slotAbove s ≡ false → T (leb (bufferIn s) 15)
+client-below Empty e = tt
+client-below (Held c l) e = subst T (sym (le-leb c 15 (omega (arith, ltb-false 15 c e)))) tt
+
+-- a row's actions are within their ranges
+pub shown-fits : (a : Arrived) (d : Driver) → slotAbove (d .buffers .«tx_buf») ≡ false → (sh : List Shown) (t r : Bool) → T (okShown sh t r) → T (fitting (shown a d sh))
+shown-fits a d e [] t r o = tt
+shown-fits a d e (plain x ∷ more) t r o =
+    pair (actionFits x) _ (quiet-fits x (left (harmless x) _ o)) (shown-fits a d e more t r (right (harmless x) _ o))
+shown-fits a d e (powerChanged ∷ more) t r o =
+    branch (λ z. T (fitting z)) _ _ _ (λ y. shown-fits a d e more t r o) (λ y. shown-fits a d e more t r o)
+shown-fits a d e (configDone ∷ more) t r o =
+    branch (λ z. T (fitting z)) _ _ _ (λ y. shown-fits a d e more t r o) (λ y. shown-fits a d e more t r o)
+shown-fits a d e (sentBack ∷ more) t r o = shown-fits a d e more false r (right t _ o)
+shown-fits a d e (droppedBack ∷ more) t r o =
+    pair (leb (bufferIn (d .buffers .«tx_buf»)) 15) _ (client-below (d .buffers .«tx_buf») e) (shown-fits a d e more false r (right t _ o))
+shown-fits a d e (receivedBack ∷ more) t r o = shown-fits a d e more t false (right r _ o)
 
 -- no more actions than the row names
 pub fewer : (a : Arrived) (d : Driver) (sh : List Shown) → length (shown a d sh) ≤ length sh
@@ -296,9 +354,31 @@ lengths-write c l b e g =
       rx-under = refl;
     }
 
--- the invariant once a starter has done its part
-abbrev pub Begun : Page → Started → Type 0
-Begun k st = Inv (begun (st .transfer .kind) (st .transfer .write) (st .transfer .read) k) (st .driver)
+-- the invariant once a starter has done its part, and the ranges of what it starts
+pub record Begun (k : Page) (st : Started) : Type 0 where
+  pub inv : Inv (begun (st .transfer .kind) (st .transfer .write) (st .transfer .read) k) (st .driver)
+  pub spans : T (transferFits (st .transfer))
+
+-- the lengths of a transfer, from those of the record
+spanning : (n x y : ℕ) → n ≤ 4 → 2 ≤ x → x ≤ 160 → 2 ≤ y → y ≤ 160 → leb n 4 && (within 2 160 x && within 2 160 y) ≡ true
+spanning n x y f a b c d = rw (le-leb n 4 f, le-leb 2 x a, le-leb x 160 b, le-leb 2 y c, le-leb y 160 d)
+
+-- the bounds of a length that is within them
+pub bounds : (low high n : ℕ) → within low high n ≡ true → (low ≤ n) × (n ≤ high)
+bounds low high n e = (leb-true low n (both-left (leb low n) (leb n high) e), leb-true n high (both-right (leb low n) (leb n high) e))
+
+reading-spans : (c l n : ℕ) (b : Buffers) → b .«rx_buf» ≡ Held c l → n ≤ 127 → Lengths b → (n + 2 ≤ 160) × (2 ≤ l) × (l ≤ 160)
+reading-spans c l n b e h g =
+    let k = bounds 129 160 l (not-false (within 129 160 l) (ap rxLengthBad (sym e) ∙ g .rx)) in
+    (omega arith, omega (arith, k .0), k .1)
+
+writing-spans : (c l : ℕ) (b : Buffers) → b .«tx_buf» ≡ Held c l → Lengths b → (b .«tx_len» + 2 ≤ 160) × (2 ≤ b .«spi_buf_len») × (b .«spi_buf_len» ≤ 160)
+writing-spans c l b e g =
+    let n = b .«tx_len» in
+    let k = bounds 2 127 n (both-left (within 2 127 n) _ (not-false (within 2 127 n && within (n + 3) 160 l) (ap (λ s. txLengthBad s n) (sym e) ∙ g .tx))) in
+    let w = bounds 129 160 (b .«spi_buf_whole») (g .whole) in
+    let p = bounds 2 (b .«spi_buf_whole») (b .«spi_buf_len») (g .present) in
+    (omega (arith, k .1), p .0, omega (arith, p .1, w .1))
 
 -- an access that passes the test, while no transfer is under way
 module _ (a : Arrived) (e : Driver) (k : Page) (m : Match (e .buffers) k) (g : Lengths (e .buffers)) (i : isIdle (e .buffers .under) ≡ true) where
@@ -310,9 +390,12 @@ module _ (a : Arrived) (e : Driver) (k : Page) (m : Match (e .buffers) k) (g : L
   none-keeps : T (ok none) → Begun k (refrains e)
   none-keeps o =
       record {
-        match = m;
-        fitted = subst (λ u. T (fit (kind u) (stateNo (e .state)) (has (e .buffers .«tx_buf»)) (has (e .buffers .«rx_buf»)) (flag sending (e .flags)) (flag handling (e .flags)))) (sym (under-idle (e .buffers .under) i)) o;
-        lengths = g;
+        inv = record {
+          match = m;
+          fitted = subst (λ u. T (fit (kind u) (stateNo (e .state)) (has (e .buffers .«tx_buf»)) (has (e .buffers .«rx_buf»)) (flag sending (e .flags)) (flag handling (e .flags)))) (sym (under-idle (e .buffers .under) i)) o;
+          lengths = g;
+        };
+        spans = tt;
       }
 
   pub register-keeps : (n x y : ℕ) → kindOf n ≡ 1 → eqb n 0 ≡ false
@@ -320,7 +403,10 @@ module _ (a : Arrived) (e : Driver) (k : Page) (m : Match (e .buffers) k) (g : L
       → Begun k (registerTransfer n x y e)
   register-keeps n x y q z o =
       subst (Begun k) (sym (register-begins k e m i n x y))
-      (record { match = rw z (begins-register (e .buffers) k m n q i); fitted = o; lengths = lengths-register (e .buffers) g })
+      (record {
+        inv = record { match = rw z (begins-register (e .buffers) k m n q i); fitted = o; lengths = lengths-register (e .buffers) g };
+        spans = let (_, h) = register-kind n q in rw (z, spanning n 2 2 (omega arith) (omega arith) (omega arith) (omega arith) (omega arith)) tt;
+      })
 
   reading-keeps : (n : ℕ) → n ≤ 127 → T (has (e .buffers .«rx_buf») && fit reading (stateNo (e .state)) (has (e .buffers .«tx_buf»)) false (flag sending (e .flags)) (flag handling (e .flags)))
       → Begun k (frameRead n e)
@@ -328,9 +414,12 @@ module _ (a : Arrived) (e : Driver) (k : Page) (m : Match (e .buffers) k) (g : L
       full (e .buffers .«rx_buf») (left (has (e .buffers .«rx_buf»)) _ o)
       (λ c l q. subst (Begun k) (sym (ap (λ s. frameReadInto s n e) q ∙ read-begins k e m i n c l))
       (record {
-        match = begins-read (e .buffers) k m c l (n + 2) q i;
-        fitted = right (has (e .buffers .«rx_buf»)) _ o;
-        lengths = lengths-read c l n (e .buffers) q h g;
+        inv = record {
+          match = begins-read (e .buffers) k m c l (n + 2) q i;
+          fitted = right (has (e .buffers .«rx_buf»)) _ o;
+          lengths = lengths-read c l n (e .buffers) q h g;
+        };
+        spans = let (x, y, z) = reading-spans c l n (e .buffers) q h g in rw (spanning 3 (n + 2) l (omega arith) (omega arith) x y z) tt;
       }))
 
   writing-keeps : T (ok writesFrame) → Begun k (frameWrite e)
@@ -338,9 +427,12 @@ module _ (a : Arrived) (e : Driver) (k : Page) (m : Match (e .buffers) k) (g : L
       full (e .buffers .«tx_buf») (left (has (e .buffers .«tx_buf»)) _ o)
       (λ c l q. subst (Begun k) (sym (ap (λ s. frameWriteFrom s e) q ∙ write-begins k e m i c l))
       (record {
-        match = begins-write (e .buffers) k m c l (e .buffers .«spi_buf_len») q i;
-        fitted = right (has (e .buffers .«tx_buf»)) _ o;
-        lengths = lengths-write c l (e .buffers) q g;
+        inv = record {
+          match = begins-write (e .buffers) k m c l (e .buffers .«spi_buf_len») q i;
+          fitted = right (has (e .buffers .«tx_buf»)) _ o;
+          lengths = lengths-write c l (e .buffers) q g;
+        };
+        spans = let (x, y, z) = writing-spans c l (e .buffers) q g in rw (spanning 4 (e .buffers .«tx_len» + 2) (e .buffers .«spi_buf_len») (omega arith) (omega arith) x y z) tt;
       }))
 
   pub access-keeps : (x : Access) → T (ok x) → Begun k (accessed x a e)

@@ -5,16 +5,19 @@ use mathlib.Core.Bool.{Bool, true, false, not, _&&_, _||_, or-false}
 use mathlib.Core.List.{List, [], _∷_}
 use Prim.Native.Nat.{ℕ, _<_}
 use native.Mathlib.Omega.{arith}
-use lib.Dec.{T, eqb, leb}
+use lib.Dec.{T, eqb, leb, ltb}
 use borrow.Author.Tests.{leb-true, le-leb, eqb-true}
 use lib.ListN.{length, getD}
 use Rattle.rf233.specs.Calls.{channelFits}
 use Rattle.custody.specs.Claim.{World, Event, next, run, newWorld, only, Kept, Custody}
 use Rattle.rf233.specs.New.{newCall, newDriver}
-use Rattle.custody.specs.Book.{newPage}
+use Rattle.custody.specs.Book.{Page, newPage}
 use Rattle.rf233.specs.Place.{client, firstPlace, placeOf}
 use Rattle.rf233.specs.Record.{within, poolFault}
 use Rattle.rf233_core.specs.declared.answer.Outcome.{Outcome}
+use Rattle.custody.specs.Ranges.{InRange}
+use Rattle.rf233_core.specs.State.{stateNo}
+use Rattle.rf233_core.specs.declared.driver.Driver.{Driver}
 use Rattle.custody.proofs.Custody.{Inv, Lengths}
 use Rattle.custody.proofs.Calls.{keeps, sound}
 use Rattle.rf233_core.proofs.Conditions.{by-flag}
@@ -48,7 +51,7 @@ newly l c =
 -- every call keeps it, and so does a list of calls
 next-holds : (w : World) (e : Event) → Holds w → Holds (next w e)
 unfolding next
-next-holds w e v = keeps (w .book) (w .driver) v (e .call) (e .pool)
+next-holds w e v = keeps (w .book) (w .driver) v (e .call) (e .pool) .inv
 
 run-holds : (w : World) (es : List Event) → Holds w → Holds (run w es)
 unfolding run
@@ -85,3 +88,20 @@ query-is-the-book l c es b h = ap firstPlace (custody l c es .placed b h) ∙ fi
 pub twelve-is-the-pool : (l c : ℕ) (es : List Event) (p : List ℕ) → poolFault (run (newWorld l c) es .driver) p ≡ not (eqb (length p) 3040)
 twelve-is-the-pool l c es p =
     rw (sound (run (newWorld l c) es .book) (run (newWorld l c) es .driver) (run-holds (newWorld l c) es (newly l c))) (or-false (not (eqb (length p) 3040)))
+
+-- what a driver that meets the invariant is in: one of the 69 states
+state-below : (k : Page) (d : Driver) → Inv k d → T (ltb (stateNo (d .state)) 69)
+unfolding fit
+state-below k d v = left (ltb (stateNo (d .state)) 69) _ (v .fitted)
+
+-- whatever a call yields is within the ranges of document 01's records
+pub in-range : InRange
+in-range l c es x p =
+    let w = run (newWorld l c) es in
+    let v = run-holds (newWorld l c) es (newly l c) in
+    let o = keeps (w .book) (w .driver) v x p in
+    record {
+      from = state-below (w .book) (w .driver) v;
+      to = state-below _ _ (o .inv);
+      reply = o .fits;
+    }

@@ -28,10 +28,12 @@ use Rattle.rf233_core.specs.declared.driver.Buffers.{Buffers}
 use Rattle.rf233_core.specs.declared.driver.Driver.{Driver}
 use Rattle.rf233_core.specs.declared.state.InternalState.{InternalState}
 use Rattle.rf233_core.specs.declared.state.InternalState.the-variants.{READY, «CONFIG_SHORT0_SET», «RX_TURNING_OFF», «RX_START_READING», «TX_STATUS_PRECHECK1»}
-use Rattle.custody.proofs.Custody.{Inv, After, Fits, Lengths, Begun, notes, filled, fewer, hands, handed-lengths, handed-under, handed-tx, handed-rx, flag-after, access-keeps, register-keeps, under-idle, register-begins, lengths-register}
+use Rattle.custody.proofs.Custody.{Inv, After, Fits, Lengths, Begun, notes, filled, filled-fits, shown-fits, fewer, hands, handed-lengths, handed-under, handed-tx, handed-rx, flag-after, access-keeps, register-keeps, under-idle, register-begins, lengths-register}
 use Rattle.rf233_core.proofs.Fit.{kind, fit, final, okShown, okAccess, okRow, txLeft, rxLeft, nextNo, row-fits, not-handling, to-46, to-60, to-handling, to-62, to-33, to-29, to-59, to-28, to-42}
 use Rattle.rf233_core.proofs.Fit.Kind.{nothing, access}
 use Rattle.rf233_core.proofs.Logic.{branch, left, right, is-false}
+use Rattle.rf233.proofs.Sound.{none-left}
+use Rattle.rf233.specs.Record.{slotAbove}
 use Rattle.custody.proofs.Match.{Match, begins-register}
 
 -- what the tree asks of the length, as a fact about the byte
@@ -60,7 +62,10 @@ module _ (k : Page) (e : Driver) (a : Arrived) (m : Match (e .buffers) k) (g : L
       let st = accessed x a c in
       record {
         inv = subst (λ z. Inv (begun (st .transfer .kind) (st .transfer .write) (st .transfer .read) z) (st .driver))
-            (sym (filled 6 6 (shown a e sh) k (le-trans (fewer a e sh) six))) kept;
+            (sym (filled 6 6 (shown a e sh) k (le-trans (fewer a e sh) six))) (kept .inv);
+        spans = kept .spans;
+        shows = filled-fits 6 6 (shown a e sh)
+            (shown-fits a e (none-left (slotAbove (e .buffers .«tx_buf»)) _ (m .below)) sh _ _ (right (leb (length sh) 6) _ p));
       }
 
 -- a row that passes the test, while no transfer is under way
@@ -112,10 +117,14 @@ pub asks : (k : Page) (d : Driver) → Inv k d → isIdle (d .buffers .under) �
     → T (fit access (stateNo (e .state)) (has (d .buffers .«tx_buf»)) (has (d .buffers .«rx_buf»)) (flag sending (e .flags)) (flag handling (e .flags)))
     → After k (stepOf (registerTransfer n x y e) (actions []))
 asks k d v i e q n x y z w o =
+    let begun =
+    register-keeps (record { status = 0; result = 0; length = 0 }) e k (subst (λ b. Match b k) (sym q) (v .match)) (subst Lengths (sym q) (v .lengths))
+    (ap (λ b. isIdle (b .under)) q ∙ i) n x y z w
+    (subst (λ b. T (fit access (stateNo (e .state)) (has (b .«tx_buf»)) (has (b .«rx_buf»)) (flag sending (e .flags)) (flag handling (e .flags)))) (sym q) o) in
     record {
-      inv = register-keeps (record { status = 0; result = 0; length = 0 }) e k (subst (λ b. Match b k) (sym q) (v .match)) (subst Lengths (sym q) (v .lengths))
-          (ap (λ b. isIdle (b .under)) q ∙ i) n x y z w
-          (subst (λ b. T (fit access (stateNo (e .state)) (has (b .«tx_buf»)) (has (b .«rx_buf»)) (flag sending (e .flags)) (flag handling (e .flags)))) (sym q) o);
+      inv = begun .inv;
+      spans = begun .spans;
+      shows = tt;
     }
 
 module _ (k : Page) (a : Arrived) where
@@ -139,6 +148,8 @@ module _ (k : Page) (a : Arrived) where
           fitted = to-46 .gives nothing _ _ _ _ _ (at-rest k d v i) tt;
           lengths = lengths-register (d .buffers) (v .lengths);
         };
+        spans = tt;
+        shows = tt;
       })
 
   commit-keeps : (d : Driver) → Inv k d → isIdle (d .buffers .under) ≡ true → After k (waitingCommit a d)
