@@ -102,7 +102,7 @@ entered-wrapped f y k =
     (turned-down-wrapped y k)
 
 -- a list of six
-six : (d : Item) (l : List Item) → length l ≡ 6
+pub six : (d : Item) (l : List Item) → length l ≡ 6
     → l ≡ getD l 0 d ∷ getD l 1 d ∷ getD l 2 d ∷ getD l 3 d ∷ getD l 4 d ∷ getD l 5 d ∷ []
 six d (a ∷ b ∷ c ∷ e ∷ f ∷ g ∷ []) h = refl
 six d [] h = absurd (omega (arith, h))
