@@ -81,7 +81,7 @@ fn compared(arguments: &Arguments) -> Result<bool, String> {
         let lines = lines.map_err(|stop| format!("seed {seed}: {stop:?}"))?;
         let judge = judged(&mut session, &text(&lines))
             .ok_or_else(|| format!("seed {seed}: the script leaves the domain"))?;
-        let ran = command::run(&arguments.command, &text(&lines), false)
+        let ran = command::run(&arguments.command, text(&lines).as_bytes(), false)
             .map_err(|failure| failed(arguments, seed, &lines, &failure))?;
         if let Some(difference) = Difference::between(&judge, &ran) {
             eprintln!("compare: seed {seed} shows a difference; cutting the script down");
@@ -138,6 +138,6 @@ fn report(
 fn tried(arguments: &Arguments, session: &mut Session, lines: &[Line]) -> Option<Difference> {
     let script = text(lines);
     let judge = judged(session, &script)?;
-    let ran = command::run(&arguments.command, &script, true).ok()?;
+    let ran = command::run(&arguments.command, script.as_bytes(), true).ok()?;
     Difference::between(&judge, &ran)
 }
