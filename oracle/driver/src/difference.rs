@@ -1,4 +1,4 @@
-//! The Rust's answer to a script, and where another's differs from it.
+//! The Rust's answer to a script, and where another's differs from it, line by line.
 
 use std::fmt;
 
@@ -41,6 +41,23 @@ impl Difference {
             command: command[same..].to_vec(),
             status: ran.status.clone(),
         })
+    }
+
+    /// The first line that differs, as both have it, and how the command ended.
+    pub fn first(&self) -> String {
+        let line = |lines: &[String]| match lines.first() {
+            Some(line) => line.clone(),
+            None => "nothing more".into(),
+        };
+        let (expected, got) = (line(&self.judge), line(&self.command));
+        let mut said = format!(
+            "line {}: expected {expected}\n        got {got}\n",
+            self.line
+        );
+        if let Some(status) = &self.status {
+            said += &format!("the command ended with {status}\n");
+        }
+        said
     }
 }
 

@@ -10,6 +10,7 @@ pub mod book;
 mod calls;
 pub mod command;
 pub mod coverage;
+pub mod damage;
 pub mod difference;
 mod domain;
 mod event;
