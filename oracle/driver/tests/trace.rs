@@ -149,7 +149,9 @@ fn a_step_gives_at_most_one_notice_and_every_trace_is_accepted() {
             lines: 300,
             without_lending: false,
         };
-        let lines = script(&mut session, wish, |_, _, outcome| {
+        let lines = script(&mut session, wish, |before, _, outcome| {
+            // The flag that says so and the transfer itself are one.
+            assert_eq!(before.image.flags.spi_busy, before.under_way.is_some());
             let actions = outcome.map_or(&[] as &[Action], |outcome| &outcome.actions);
             assert!(actions.iter().filter_map(notice).count() <= 1);
         });

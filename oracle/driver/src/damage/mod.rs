@@ -20,6 +20,10 @@ pub use tally::Tally;
 
 /// Blocks of a large input; it ends with a short tail.
 const BATCH: u64 = 2000;
+/// Whole blocks of the longest input, whose records need more than 16 bits to count, and
+/// how much longer the run must be to have it.
+const LONGEST: u64 = 4000;
+const LONGER: u64 = 10;
 /// Small inputs after each large one, for the lengths of their tails.
 const SMALL: u64 = 5;
 /// Whole blocks of a small input before its tail at most.
@@ -90,16 +94,22 @@ impl Damage {
         let mut input = Input::default();
         match self.inputs {
             0 => return input,
-            place if (place - 1).is_multiple_of(SMALL + 1) => self.fill(&mut input),
+            1 if self.left >= LONGER * LONGEST => self.whole(&mut input, LONGEST),
+            place if place % (SMALL + 1) == 2 => self.fill(&mut input),
             _ if self.random.percent(50) => self.shifted(&mut input),
             _ => {
-                for _ in 0..self.random.within(0, BEFORE_TAIL) {
-                    input.add(Kind::Whole, &self.bases.block(&mut self.random));
-                }
+                let blocks = self.random.within(0, BEFORE_TAIL);
+                self.whole(&mut input, blocks);
                 self.tail(&mut input);
             }
         }
         input
+    }
+
+    fn whole(&mut self, input: &mut Input, blocks: u64) {
+        for _ in 0..blocks {
+            input.add(Kind::Whole, &self.one_block(Kind::Whole));
+        }
     }
 
     /// A large input of all kinds.
