@@ -45,15 +45,14 @@ impl Difference {
 
     /// The first line that differs, as both have it, and how the command ended.
     pub fn first(&self) -> String {
-        let line = |lines: &[String]| match lines.first() {
-            Some(line) => line.clone(),
-            None => "nothing more".into(),
-        };
-        let (expected, got) = (line(&self.judge), line(&self.command));
-        let mut said = format!(
-            "line {}: expected {expected}\n        got {got}\n",
-            self.line
-        );
+        let mut said = String::new();
+        let lines = [&self.judge, &self.command].map(|lines| lines.first());
+        if lines != [None, None] {
+            let shown = |line: Option<&String>| line.cloned().unwrap_or("nothing more".into());
+            let [expected, got] = lines.map(shown);
+            let line = self.line;
+            said += &format!("line {line}: expected {expected}\nline {line}: got {got}\n");
+        }
         if let Some(status) = &self.status {
             said += &format!("the command ended with {status}\n");
         }

@@ -114,10 +114,8 @@ fn report(arguments: &Arguments, input: &Input, judged: &Judged, ran: &Ran) -> R
         _ => cut(pieces, shows),
     };
     keep(arguments, &smallest.concat())?;
-    if let Some(place) = place {
-        let (seed, name) = (arguments.seed, input.kinds[place].name());
-        println!("a difference, seed {seed}, at a block of the kind: {name}");
-    }
+    let name = place.map_or("no block", |place| input.kinds[place].name());
+    println!("a difference, seed {}, at: {name}", arguments.seed);
     let (bytes, count) = (smallest.concat().len(), smallest.len());
     println!("the smallest input found that shows it has {bytes} bytes, blocks: {count}");
     if let Some(difference) = difference {
