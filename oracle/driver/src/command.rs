@@ -1,5 +1,5 @@
-//! Runs another implementation: a command that reads a script on its standard input and
-//! writes what the calls yield.
+//! Runs another implementation: a command that reads a script, or trace blocks, on its
+//! standard input and writes what they yield.
 
 use std::fmt;
 use std::io::{Read, Write};
@@ -8,7 +8,7 @@ use std::sync::mpsc;
 use std::thread;
 use std::time::Duration;
 
-/// How long a command may take for one script.
+/// How long a command may take for one input.
 const LIMIT: Duration = Duration::from_secs(20);
 
 /// What a command yielded.
@@ -37,8 +37,8 @@ impl fmt::Display for Failure {
     }
 }
 
-/// Runs the command on a script. `quiet`: what it writes on standard error is not shown.
-pub fn run(command: &[String], script: &str, quiet: bool) -> Result<Ran, Failure> {
+/// Runs the command on an input. `quiet`: what it writes on standard error is not shown.
+pub fn run(command: &[String], input: &[u8], quiet: bool) -> Result<Ran, Failure> {
     let errors = if quiet {
         Stdio::null()
     } else {
@@ -51,7 +51,7 @@ pub fn run(command: &[String], script: &str, quiet: bool) -> Result<Ran, Failure
         .stderr(errors)
         .spawn()
         .map_err(Failure::NotStarted)?;
-    feed(&mut child, script);
+    feed(&mut child, input);
     let Some(output) = read(&mut child) else {
         // Whatever it is doing, it is not waited for.
         let _ = child.kill();
@@ -66,14 +66,14 @@ pub fn run(command: &[String], script: &str, quiet: bool) -> Result<Ran, Failure
     Ok(Ran { output, status })
 }
 
-/// Writes the script to the command beside what else goes on: neither waits for the
+/// Writes the input to the command beside what else goes on: neither waits for the
 /// other. A command that stops reading early shows in what it writes.
-fn feed(child: &mut Child, script: &str) {
+fn feed(child: &mut Child, input: &[u8]) {
     let stdin = child.stdin.take();
     let mut stdin = stdin.expect("standard input is a pipe");
-    let script = script.as_bytes().to_vec();
+    let input = input.to_vec();
     thread::spawn(move || {
-        let _ = stdin.write_all(&script);
+        let _ = stdin.write_all(&input);
     });
 }
 

@@ -1,4 +1,4 @@
-//! The Rust's answer to a script, and where another's differs from it.
+//! The Rust's answer to a script, and where another's differs from it, line by line.
 
 use std::fmt;
 
@@ -41,6 +41,22 @@ impl Difference {
             command: command[same..].to_vec(),
             status: ran.status.clone(),
         })
+    }
+
+    /// The first line that differs, as both have it, and how the command ended.
+    pub fn first(&self) -> String {
+        let mut said = String::new();
+        let lines = [&self.judge, &self.command].map(|lines| lines.first());
+        if lines != [None, None] {
+            let shown = |line: Option<&String>| line.cloned().unwrap_or("nothing more".into());
+            let [expected, got] = lines.map(shown);
+            let line = self.line;
+            said += &format!("line {line}: expected {expected}\nline {line}: got {got}\n");
+        }
+        if let Some(status) = &self.status {
+            said += &format!("the command ended with {status}\n");
+        }
+        said
     }
 }
 

@@ -1,5 +1,6 @@
 //! The Rust driver of the AT86RF233 over stand-ins for the kernel, made to answer
-//! scripts of calls, with a generator of scripts and a comparison built on it.
+//! scripts of calls, with a generator of scripts and a comparison built on it; and a
+//! second implementation of the trace that calls leave.
 
 pub mod action;
 pub mod answer;
@@ -9,6 +10,7 @@ pub mod book;
 mod calls;
 pub mod command;
 pub mod coverage;
+pub mod damage;
 pub mod difference;
 mod domain;
 mod event;
@@ -23,6 +25,7 @@ mod random;
 pub mod run;
 pub mod session;
 pub mod shrink;
+pub mod trace;
 pub mod view;
 pub mod walk;
 

@@ -1,4 +1,4 @@
-//! Reads the options of `generate`, `compare` and `walk`: `--name NUMBER` and plain `--name`.
+//! Reads a program's options: `--name VALUE` and plain `--name`.
 
 /// What the options say. Names that a program does not know end the reading.
 pub struct Options {

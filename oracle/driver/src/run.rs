@@ -1,7 +1,10 @@
 //! Runs a whole script: lines in, what the calls yield out.
 
+use std::fmt;
 use std::io::{self, BufRead, Read, Write};
 
+use crate::line::{Call, Line};
+use crate::outcome::Outcome;
 use crate::parse::{LONGEST, parse};
 use crate::session::{Session, Stop};
 
@@ -31,42 +34,83 @@ impl End {
     }
 }
 
+/// Where and why a run went no further.
+#[derive(Clone, Debug, PartialEq, Eq)]
+pub struct Halt {
+    /// From 1.
+    line: u64,
+    why: Why,
+}
+
+#[derive(Clone, Debug, PartialEq, Eq)]
+enum Why {
+    Malformed,
+    Stopped(Stop),
+}
+
+impl Halt {
+    pub fn end(&self) -> End {
+        match &self.why {
+            Why::Malformed => End::Malformed,
+            Why::Stopped(Stop::Outside(_)) => End::Outside,
+            Why::Stopped(Stop::Panicked(_)) => End::Panicked,
+            Why::Stopped(Stop::Disagreement(_)) => End::Disagreement(self.to_string()),
+        }
+    }
+}
+
+impl fmt::Display for Halt {
+    fn fmt(&self, f: &mut fmt::Formatter) -> fmt::Result {
+        let line = self.line;
+        match &self.why {
+            Why::Malformed => write!(f, "line {line} malformed"),
+            Why::Stopped(Stop::Outside(reason)) => {
+                write!(f, "line {line} outside the domain: {reason}")
+            }
+            Why::Stopped(Stop::Panicked(message)) => write!(f, "panic {message}"),
+            Why::Stopped(Stop::Disagreement(said)) => write!(f, "line {line}: {said}"),
+        }
+    }
+}
+
 /// Runs the script on a session that is at a script's beginning.
-pub fn run(
+pub fn run(session: &mut Session, input: impl BufRead, output: &mut impl Write) -> io::Result<End> {
+    let halt = perform(session, input, |_, _, outcome| write!(output, "{outcome}"))?;
+    let Some(halt) = halt else {
+        write!(output, "{}", session.ending())?;
+        return Ok(End::Complete);
+    };
+    let end = halt.end();
+    if !matches!(end, End::Disagreement(_)) {
+        writeln!(output, "{halt}")?;
+    }
+    Ok(end)
+}
+
+/// Performs a script's lines up to its end or to one that halts the run. `each` is shown
+/// every call, what it yielded, and the session after it.
+pub fn perform(
     session: &mut Session,
     mut input: impl BufRead,
-    output: &mut impl Write,
-) -> io::Result<End> {
+    mut each: impl FnMut(&Session, &Call, &Outcome) -> io::Result<()>,
+) -> io::Result<Option<Halt>> {
     let mut text = Vec::with_capacity(LONGEST + 2);
     let mut number = 0u64;
+    let halt = |line, why| Ok(Some(Halt { line, why }));
     while next_line(&mut input, &mut text)? {
         number += 1;
         let Some(line) = parse(&text) else {
-            writeln!(output, "line {number} malformed")?;
-            return Ok(End::Malformed);
+            return halt(number, Why::Malformed);
         };
-        match session.perform(&line) {
-            Ok(None) => {}
-            Ok(Some(outcome)) => write!(output, "{outcome}")?,
-            Err(stop) => return ended(number, stop, output),
+        let outcome = match session.perform(&line) {
+            Ok(outcome) => outcome,
+            Err(stop) => return halt(number, Why::Stopped(stop)),
+        };
+        if let (Line::Call(call), Some(outcome)) = (&line, &outcome) {
+            each(session, call, outcome)?;
         }
     }
-    write!(output, "{}", session.ending())?;
-    Ok(End::Complete)
-}
-
-fn ended(number: u64, stop: Stop, output: &mut impl Write) -> io::Result<End> {
-    match stop {
-        Stop::Outside(reason) => {
-            writeln!(output, "line {number} outside the domain: {reason}")?;
-            Ok(End::Outside)
-        }
-        Stop::Panicked(message) => {
-            writeln!(output, "panic {message}")?;
-            Ok(End::Panicked)
-        }
-        Stop::Disagreement(said) => Ok(End::Disagreement(format!("line {number}: {said}"))),
-    }
+    Ok(None)
 }
 
 /// Reads a line without its line feed. One that is too long is cut off one byte past

@@ -8,49 +8,61 @@ const TRIES: u32 = 4000;
 
 /// Cuts the script down. `shows`: whether a script still shows the difference.
 pub fn shrink(script: Vec<Line>, shows: impl FnMut(&[Line]) -> bool) -> Vec<Line> {
-    let mut shrinking = Shrinking {
-        script,
-        shows,
-        left: TRIES,
-    };
+    let mut shrinking = Shrinking::new(script, shows);
     shrinking.cut_end();
     loop {
-        let before = shrinking.script.clone();
-        shrinking.cut_lines();
+        let before = shrinking.items.clone();
+        shrinking.cut_items();
         shrinking.simplify();
-        if shrinking.script == before || shrinking.left == 0 {
-            return shrinking.script;
+        if shrinking.items == before || shrinking.left == 0 {
+            return shrinking.items;
         }
     }
 }
 
-struct Shrinking<F> {
-    script: Vec<Line>,
+/// Lets go of whatever items can go, whatever they are.
+pub fn cut<T: Clone>(items: Vec<T>, shows: impl FnMut(&[T]) -> bool) -> Vec<T> {
+    let mut shrinking = Shrinking::new(items, shows);
+    shrinking.cut_end();
+    shrinking.cut_items();
+    shrinking.items
+}
+
+struct Shrinking<T, F> {
+    items: Vec<T>,
     shows: F,
     left: u32,
 }
 
-impl<F: FnMut(&[Line]) -> bool> Shrinking<F> {
-    /// Takes a shorter or simpler script in place of the present one if it still shows
-    /// the difference.
-    fn take(&mut self, script: Vec<Line>) -> bool {
+impl<T: Clone, F: FnMut(&[T]) -> bool> Shrinking<T, F> {
+    fn new(items: Vec<T>, shows: F) -> Shrinking<T, F> {
+        Shrinking {
+            items,
+            shows,
+            left: TRIES,
+        }
+    }
+
+    /// Takes fewer or simpler items in place of the present ones if they still show the
+    /// difference.
+    fn take(&mut self, items: Vec<T>) -> bool {
         if self.left == 0 {
             return false;
         }
         self.left -= 1;
-        let shows = (self.shows)(&script);
+        let shows = (self.shows)(&items);
         if shows {
-            self.script = script;
+            self.items = items;
         }
         shows
     }
 
     /// Lets go of the end, by halving what must be kept.
     fn cut_end(&mut self) {
-        let (mut low, mut high) = (0, self.script.len());
+        let (mut low, mut high) = (0, self.items.len());
         while low + 1 < high {
             let middle = low + (high - low) / 2;
-            let start = self.script[..middle].to_vec();
+            let start = self.items[..middle].to_vec();
             match self.take(start) {
                 true => high = middle,
                 false => low = middle,
@@ -58,28 +70,30 @@ impl<F: FnMut(&[Line]) -> bool> Shrinking<F> {
         }
     }
 
-    /// Lets go of lines, in ever smaller pieces.
-    fn cut_lines(&mut self) {
-        let mut piece = self.script.len().div_ceil(2);
+    /// Lets go of items, in ever smaller pieces.
+    fn cut_items(&mut self) {
+        let mut piece = self.items.len().div_ceil(2);
         while piece > 0 {
             let mut at = 0;
-            while at < self.script.len() {
-                let end = (at + piece).min(self.script.len());
-                let mut script = self.script.clone();
-                script.drain(at..end);
-                if !self.take(script) {
+            while at < self.items.len() {
+                let end = (at + piece).min(self.items.len());
+                let mut items = self.items.clone();
+                items.drain(at..end);
+                if !self.take(items) {
                     at = end;
                 }
             }
             piece /= 2;
         }
     }
+}
 
+impl<F: FnMut(&[Line]) -> bool> Shrinking<Line, F> {
     /// Puts simpler lines in place of those that are left.
     fn simplify(&mut self) {
-        for at in 0..self.script.len() {
-            for line in simpler(&self.script[at]) {
-                let mut script = self.script.clone();
+        for at in 0..self.items.len() {
+            for line in simpler(&self.items[at]) {
+                let mut script = self.items.clone();
                 script[at] = line;
                 if self.take(script) {
                     break;

@@ -132,7 +132,7 @@ fn figures(walk: &Walk, begun: Instant) -> String {
 fn started(command: &[String], batch: Batch) -> JoinHandle<Answered> {
     let command = command.to_vec();
     thread::spawn(move || {
-        let ran = command::run(&command, &text(&batch.lines), false);
+        let ran = command::run(&command, text(&batch.lines).as_bytes(), false);
         let ran = ran.map_err(|failure| format!("{} {failure}", command[0]));
         (batch, ran)
     })
@@ -196,6 +196,6 @@ fn report(
 fn tried(command: &[String], session: &mut Session, lines: &[Line]) -> Option<Difference> {
     let script = text(lines);
     let judge = judged(session, &script)?;
-    let ran = command::run(command, &script, true).ok()?;
+    let ran = command::run(command, script.as_bytes(), true).ok()?;
     Difference::between(&judge, &ran)
 }
