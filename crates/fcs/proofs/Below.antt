@@ -1,6 +1,6 @@
 -- A test that passes at every number below n holds at each: one computation, and one law that takes a number's part out of it.
 -- Assumes nothing.
-use mathlib.Core.Path.{_≡_, subst, sym}
+use mathlib.Core.Path.{subst, sym}
 use mathlib.Core.Bool.{Bool, true, false, _&&_}
 use mathlib.Core.Logic.{⊎-elim}
 use Prim.Native.Nat.{ℕ, zero, suc, _<_}

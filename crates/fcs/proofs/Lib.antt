@@ -1,5 +1,10 @@
-pub mod Xor
-pub mod Below
-pub mod Turns
+-- The laws of the check. What other crates cite: `Register` (the check is below 65,536, and the check of a list in two parts) and `Flip`.
+mod Xor
+mod Below
+mod Turns
+mod Form
 pub mod Register
-pub mod Byte
+mod Shortcut
+mod Four
+mod Bytes
+pub mod Flip

@@ -3,24 +3,25 @@
 -- Assumes nothing.
 use mathlib.Core.Path.{_≡_, refl, sym, ap, ap₂, _∙_, subst}
 use mathlib.Core.List.{List, [], _∷_, _++_}
-use Prim.Native.Nat.{ℕ, zero, suc, _+_, _*_, _/_, _%_, _^_, _<_}
+use Prim.Native.Nat.{ℕ, zero, suc, _+_, _*_, _/_, _%_, _^_, _<_, _≤_}
 use native.Mathlib.Nat.{mod-lt, pow-suc}
 use native.Mathlib.Numerals.{add-one}
 use native.Mathlib.Omega.{arith}
 use lib.Arith.{lt-one}
-use lib.Bits.{bitXor, differ}
-use lib.ListN.{length, getD, take}
-use lib.Seq.{take-suc}
+use lib.Pow.{pow-pos, mod-mod-pow, field}
+use lib.Bits.{differ}
+use lib.ListN.{length, getD, take, drop, drop-of-length-le}
+use lib.Seq.{take-suc, drop-cons}
 use Rattle.fcs.specs.Fcs.{generator, bitStep, bitSteps, byteStep, fcsFrom, fcsOf}
+use Rattle.fcs.specs.Word.{reduced}
 use Rattle.fcs.proofs.Xor.{differ-lt, _⊕_, ⊕-assoc, ⊕-comm, ⊕-zero, ⊕-lt}
 use Rattle.fcs.proofs.Turns.{turn, turns, turn-xor}
 
 bit-step : (r b : ℕ) → bitStep r (b % 2) ⊕ b / 2 ≡ turn (r ⊕ b)
 unfolding bitStep _⊕_
 bit-step r b =
-    ⊕-assoc (r / 2) (differ (r % 2) (b % 2) * generator) (b / 2)
-    ∙ ap (λ (x : ℕ). r / 2 ⊕ x) (⊕-comm (differ (r % 2) (b % 2) * generator) (b / 2))
-    ∙ sym (⊕-assoc (r / 2) (b / 2) (differ (r % 2) (b % 2) * generator))
+    ap (λ (x : ℕ). x ⊕ b / 2) (⊕-comm (r / 2) (differ (r % 2) (b % 2) * generator))
+    ∙ ⊕-assoc (differ (r % 2) (b % 2) * generator) (r / 2) (b / 2)
     ∙ sym (turn-xor r b)
 
 pub bit-steps : (n r b : ℕ) → b < 2 ^ n → bitSteps n r b ≡ turns n (r ⊕ b)
@@ -29,6 +30,11 @@ bit-steps zero r b h = sym (ap (λ (x : ℕ). r ⊕ x) (lt-one h) ∙ ⊕-zero r
 bit-steps (suc n) r b h =
     let low : b / 2 < 2 ^ n = omega (arith, subst (λ (m : ℕ). b < m) (pow-suc 2 n) h) in
     bit-steps n (bitStep r (b % 2)) (b / 2) low ∙ ap (turns n) (bit-step r b)
+
+-- with no data they are turns
+pub reduced-turns : (n x : ℕ) → reduced n x ≡ turns n x
+unfolding reduced
+reduced-turns n x = bit-steps n x 0 (pow-pos n) ∙ ap (turns n) (⊕-zero x)
 
 pub byte-step : (r b : ℕ) → b < 256 → byteStep r b ≡ turns 8 (r ⊕ b)
 unfolding byteStep
@@ -44,6 +50,23 @@ bit-steps-lt : (n r b : ℕ) → r < 2 ^ 16 → bitSteps n r b < 2 ^ 16
 unfolding bitSteps
 bit-steps-lt zero r b h = h
 bit-steps-lt (suc n) r b h = bit-steps-lt n (bitStep r (b % 2)) (b / 2) (bit-step-lt r b h)
+
+pub byte-step-lt : (r b : ℕ) → r < 2 ^ 16 → byteStep r b < 2 ^ 16
+unfolding byteStep
+byte-step-lt r b h = bit-steps-lt 8 r b h
+
+-- of a number that is no byte the lowest n bits are taken
+bit-steps-low : (n r b : ℕ) → bitSteps n r b ≡ bitSteps n r (b % 2 ^ n)
+unfolding bitSteps
+bit-steps-low zero r b = refl
+bit-steps-low (suc n) r b =
+    let odd : b % 2 ^ suc n % 2 ≡ b % 2 = ap (λ (k : ℕ). b % 2 ^ k % 2) (sym (add-one n)) ∙ mod-mod-pow b n 1 in
+    let half : b % 2 ^ suc n / 2 ≡ b / 2 % 2 ^ n = ap (λ (k : ℕ). b % 2 ^ k / 2) (sym (add-one n)) ∙ field b n 1 in
+    bit-steps-low n (bitStep r (b % 2)) (b / 2) ∙ ap₂ (λ (d h : ℕ). bitSteps n (bitStep r d) h) (sym odd) (sym half)
+
+pub byte-step-low : (r b : ℕ) → byteStep r b ≡ byteStep r (b % 256)
+unfolding byteStep
+byte-step-low r b = bit-steps-low 8 r b
 
 pub fcs-from-lt : (r : ℕ) (bs : List ℕ) → r < 2 ^ 16 → fcsFrom r bs < 2 ^ 16
 unfolding fcsFrom byteStep
@@ -70,3 +93,12 @@ pub fcs-more : (bs : List ℕ) (i : ℕ) → i < length bs → fcsOf (take (i + 
 unfolding fcsFrom
 fcs-more bs i h =
     ap (λ (n : ℕ). fcsOf (take n bs)) (add-one i) ∙ ap fcsOf (take-suc bs i 0 h) ∙ fcs-append (take i bs) (getD bs i 0 ∷ [])
+
+-- the next byte, and the end of the list
+pub from-next : (r : ℕ) (bs : List ℕ) (at : ℕ) → at < length bs → fcsFrom r (drop at bs) ≡ fcsFrom (byteStep r (getD bs at 0)) (drop (at + 1) bs)
+unfolding fcsFrom
+from-next r bs at h = ap (fcsFrom r) (drop-cons bs at 0 h ∙ ap (λ (n : ℕ). getD bs at 0 ∷ drop n bs) (sym (add-one at)))
+
+pub from-end : (r : ℕ) (bs : List ℕ) (at : ℕ) → length bs ≤ at → fcsFrom r (drop at bs) ≡ r
+unfolding fcsFrom
+from-end r bs at h = ap (fcsFrom r) (drop-of-length-le bs h)

@@ -1,6 +1,6 @@
 -- The laws of xor that the check's proofs use: a sum without carries, in which each number is its own opposite.
 -- Assumes nothing.
-use mathlib.Core.Path.{_≡_, refl, sym, ap, ap₂, _∙_, subst}
+use mathlib.Core.Path.{_≡_, refl, sym, ap, ap₂, _∙_}
 use Prim.Native.Nat.{ℕ, zero, suc, _+_, _*_, _/_, _%_, _^_, _<_}
 use native.Mathlib.Nat.{mod-lt}
 use native.Mathlib.Omega.{arith}

@@ -1,1 +1,3 @@
 pub mod Fcs
+pub mod Word
+pub mod Flip

@@ -7,6 +7,7 @@ use crate::call::value;
 use crate::run::Run;
 use crate::run::Session;
 use crate::run::with_session;
+use crate::tracing::trace_call;
 use custody::book::Book;
 use custody::book::enter;
 use custody::book::new_book;
@@ -101,6 +102,11 @@ fn call(run: Run, line: Line, bytes: &[u8], pool: &mut [u8], out: &mut [u8]) -> 
     let book = session.book;
     let done = make(driver, line, bytes, pool);
     let page = entered(book, line, done);
+    let trace = run.trace;
+    if trace.wanted {
+        let traced = trace_call(run, line, bytes, done, out);
+        return after_call(traced, done, page, traced.written);
+    }
     let written = write_call(run, line, done, page.fault, pool, out);
     after_call(run, done, page, written)
 }
@@ -115,8 +121,14 @@ fn call_on(run: Run, line: Line, bytes: &[u8], area: &mut [u8], out: &mut [u8]) 
     run
 }
 
-// A line that is none of a script's: the last that is written.
+// A line that is none of a script's: the last that is written. A trace ends with the call before it.
 pub fn malformed(run: Run, out: &mut [u8]) -> Run {
+    let trace = run.trace;
+    if trace.wanted {
+        let mut next = run;
+        next.over = true;
+        return next;
+    }
     let a = text(out, run.written, b"line ");
     let b = decimal(out, a, run.lines);
     let mut next = run;

@@ -15,6 +15,13 @@ pub struct Session {
     pub length: usize,
 }
 
+// Whether the run writes its trace in place of text; the number of the block that is being filled, and how many records it has.
+pub struct Trace {
+    pub wanted: bool,
+    pub number: u32,
+    pub records: u8,
+}
+
 // The session and the one to go back to; how many calls and lines there were; how much of the line is there, and how much of the output;
 // whether the run is over.
 pub struct Run {
@@ -25,6 +32,7 @@ pub struct Run {
     pub filled: usize,
     pub written: usize,
     pub over: bool,
+    pub trace: Trace,
 }
 
 fn first_session() -> Session {
@@ -38,8 +46,13 @@ fn first_session() -> Session {
     }
 }
 
-pub fn first_run() -> Run {
+pub fn first_run(traced: bool) -> Run {
     let session = first_session();
+    let trace = Trace {
+        wanted: traced,
+        number: 0,
+        records: 0,
+    };
     Run {
         session: session,
         kept: session,
@@ -48,6 +61,7 @@ pub fn first_run() -> Run {
         filled: 0,
         written: 0,
         over: false,
+        trace: trace,
     }
 }
 

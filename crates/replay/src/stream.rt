@@ -4,22 +4,14 @@ use crate::perform::malformed;
 use crate::perform::perform_text;
 use crate::run::Run;
 use crate::run::first_run;
-use libc::STDIN_FILENO;
-use libc::STDOUT_FILENO;
+use crate::tracing::end_trace;
+use stdio::streams::read_once;
+use stdio::streams::write_first;
 ghost use Prim.Native.Nat.{_≤_};
 ghost use lib.ListN.{length};
-ghost use Rattle.io.specs.Counts.{Counts};
 
 // The output is written when it has grown past this: one line adds less than the rest of the buffer.
 const MUCH: usize = 32768;
-
-// How many bytes one read put at the start of `input`. A read that fails counts as the end.
-fn read_once(input: &mut [u8]) -> usize
-    ensures { λ r. ⌜ Counts r (now (input .exit)) ⌝ }
-{
-    let got = libc::read(STDIN_FILENO, input);
-    io::count(got, input)
-}
 
 // Where the line that goes on at `from` ends in this piece of the input.
 fn line_stop(input: &[u8], from: usize) -> usize
@@ -47,17 +39,10 @@ fn gather(text: &mut [u8], filled: usize, piece: &[u8]) -> usize {
     filled + piece.len()
 }
 
-// Writes the first `n` bytes of the output, and answers whether that went well.
-fn write_first(out: &[u8], n: usize) -> bool {
-    if out.len() < n {
-        return false;
-    }
-    io::write_all(STDOUT_FILENO, &out[0..n])
-}
-
-// Writes the output that there is, where it is much. Where it cannot be written, the run is over.
+// Writes the output that there is, where it is much and no block of a trace is being filled behind it. Where it cannot be written, the run is over.
 fn write_much(run: Run, out: &[u8]) -> Run {
-    if run.written <= MUCH {
+    let trace = run.trace;
+    if run.written <= MUCH || 0 < trace.records {
         return run;
     }
     let is_written = write_first(out, run.written);
@@ -151,10 +136,12 @@ fn close(run: Run, out: &mut [u8]) -> Run {
     if run.over {
         return run;
     }
-    let written = ending(run, out);
+    let trace = run.trace;
     let mut next = run;
-    next.written = written;
     next.over = true;
+    if !trace.wanted {
+        next.written = ending(run, out);
+    }
     next
 }
 
@@ -191,6 +178,7 @@ fn read_some(
 
 // Nothing says that the input ends, and a loop has to: it counts its turns down, from a number that no run uses up.
 fn read_all(
+    traced: bool,
     input: &mut [u8],
     text: &mut [u8],
     bytes: &mut [u8],
@@ -198,7 +186,7 @@ fn read_all(
     kept: &mut [u8],
     out: &mut [u8],
 ) -> Run {
-    let mut run = first_run();
+    let mut run = first_run(traced);
     let mut turns = u64::MAX;
     while 0 < turns && !run.over {
         run = read_some(run, input, text, bytes, area, kept, out);
@@ -207,8 +195,15 @@ fn read_all(
     run
 }
 
-// A whole script, from its first line to what is written last.
+// The last that is written.
+fn end_run(run: Run, out: &mut [u8]) {
+    let ended = end_trace(run, out);
+    write_first(out, ended.written);
+}
+
+// A whole script, from its first line to what is written last: its text, or its trace.
 pub fn run_script(
+    traced: bool,
     input: &mut [u8],
     text: &mut [u8],
     bytes: &mut [u8],
@@ -216,6 +211,6 @@ pub fn run_script(
     kept: &mut [u8],
     out: &mut [u8],
 ) {
-    let run = read_all(input, text, bytes, area, kept, out);
-    write_first(out, run.written);
+    let run = read_all(traced, input, text, bytes, area, kept, out);
+    end_run(run, out);
 }

@@ -1,60 +1,35 @@
--- `fcs::fcs::fcs` meets its contract. The loop's invariant: the register is the check of the bytes passed. The measure is what is
--- left of the length.
+-- `fcs::fcs::fcs` meets its contract: the word that `words` leaves stands for the register after the bytes that are done, and `rest`
+-- goes on from there.
 -- Assumes nothing.
-use mathlib.Core.Path.{_≡_, refl, sym, ap, ap₂, _∙_}
-use Prim.Native.Nat.{ℕ, _≤_, _-_}
-use native.Mathlib.Omega.{arith}
-use lib.ListN.{length, take, getD}
-use lib.Seq.{take-all}
-use Rattle.fcs.specs.Fcs.{fcsOf, fcsFrom, byteStep}
-use Rattle.fcs.proofs.Register.{fcs-more}
+use mathlib.Core.Path.{sym, ap, _∙_}
+use Prim.Native.Nat.{ℕ}
+use lib.ListN.{take, drop, take-append-drop}
+use Rattle.fcs.specs.Fcs.{fcsFrom, fcsOf}
+use Rattle.fcs.proofs.Register.{fcs-append}
 use Rattle.fcs.proofs.fcs.fcs.Statement.{statement}
 use Rattle.fcs.proofs.fcs.fcs.Tie as tie
 
-abbrev Inv-loop : tie.InvT-loop
-Inv-loop bytes r₀ i₀ r i = (i ≤ length bytes) × (r ≡ fcsOf (take i bytes))
+blocks-requires : tie.Need-blocks-requires
+blocks-requires c κs = tt
 
-abbrev μ-loop : tie.MeasureT-loop
-μ-loop bytes r₀ i₀ r i = length bytes - i
+words-requires : tie.Need-words-requires
+words-requires c κs = c .blocks2 .ensures
 
-loop-holds : tie.Need-loop-holds Inv-loop μ-loop
-unfolding fcsOf fcsFrom
-loop-holds c = (omega arith, refl)
+register-requires : tie.Need-register-requires
+register-requires c κs = tt
 
-shared-slice-read-byte-step : tie.Need-shared-slice-read-byte-step Inv-loop μ-loop
-shared-slice-read-byte-step c = omega arith
+rest-requires : tie.Need-rest-requires
+rest-requires c κs = c .before .words .ensures .within
 
-byte-step-requires : tie.Need-byte-step-requires Inv-loop μ-loop
-byte-step-requires c κs = tt
-
-add-i : tie.Need-add-i Inv-loop μ-loop
-add-i c = omega arith
-
-loop-less : tie.Need-loop-less Inv-loop μ-loop
-loop-less c = omega arith
-
-loop-again : tie.Need-loop-again Inv-loop μ-loop
-loop-again c =
-    let head = c .before .before .before in
-    let bytes = head .before .before .args .bytes .now in
-    let i = head .loop .i in (
-      omega arith,
-      c .byte-step .ensures ∙ ap (λ (r : ℕ). byteStep r (getD bytes i 0)) (head .loop .inv .1) ∙ sym (fcs-more bytes i (omega arith)),
-    )
-
-returns : tie.Need-returns Inv-loop μ-loop
-returns c = c .before .loop .inv .1 ∙ ap fcsOf (take-all (c .before .loop .i) (c .before .before .before .args .bytes .now) (omega arith))
+returns : tie.Need-returns
+returns c =
+    let done = c .before .before .words in
+    let bytes = c .before .before .before .before .before .args .bytes .now in
+    let at = done .result .at in
+    c .rest .ensures
+    ∙ ap (λ (r : ℕ). fcsFrom r (drop at bytes)) (c .before .register .ensures ∙ done .ensures .held)
+    ∙ sym (fcs-append (take at bytes) (drop at bytes))
+    ∙ ap fcsOf (take-append-drop at bytes)
 
 pub fcs-spec : {M : Type 1} → statement M
-fcs-spec =
-    tie.close
-    (tie.spec
-    Inv-loop
-    μ-loop
-    loop-holds
-    shared-slice-read-byte-step
-    byte-step-requires
-    add-i
-    loop-less
-    loop-again
-    returns)
+fcs-spec = tie.close (tie.spec blocks-requires words-requires register-requires rest-requires returns)

@@ -8,12 +8,12 @@ use Rattle.replay.proofs.stream.read_all.Statement.{statement}
 use Rattle.replay.proofs.stream.read_all.Tie as tie
 
 abbrev Inv-loop : tie.InvT-loop
-Inv-loop input₀ text₀ bytes₀ area₀ kept₀ out₀ run₀ turns₀ input text bytes area kept out run turns =
+Inv-loop traced input₀ text₀ bytes₀ area₀ kept₀ out₀ run₀ turns₀ input text bytes area kept out run turns =
     (length input ≡ length input₀) × (length text ≡ length text₀) × (length bytes ≡ length bytes₀) × (length area ≡ length area₀)
     × (length kept ≡ length kept₀) × (length out ≡ length out₀)
 
 abbrev μ-loop : tie.MeasureT-loop
-μ-loop input₀ text₀ bytes₀ area₀ kept₀ out₀ run₀ turns₀ input text bytes area kept out run turns = turns
+μ-loop traced input₀ text₀ bytes₀ area₀ kept₀ out₀ run₀ turns₀ input text bytes area kept out run turns = turns
 
 loop-again : tie.Need-loop-again Inv-loop μ-loop
 loop-again c =

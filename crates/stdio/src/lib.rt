@@ -1,0 +1,2 @@
+// Standard input and output of the programs: one read, and the first bytes of a buffer written.
+pub mod streams;
