@@ -1,0 +1,66 @@
+// A scenario: one driver through lists of events, round by round.
+use crate::digest::Digest;
+use crate::digest::mixed;
+use crate::digest::no_digest;
+use rf233::create::new;
+use rf233_core::driver::Driver;
+use scenario::event::make;
+use scenario::event::width;
+
+struct Run {
+    driver: Driver,
+    digest: Digest,
+}
+
+fn first() -> Run {
+    let out = new(129, 26);
+    let driver = out.driver;
+    let digest = no_digest();
+    Run {
+        driver: driver,
+        digest: digest,
+    }
+}
+
+fn step(run: Run, events: &[u8], pool: &mut [u8]) -> Run {
+    let before = run.driver;
+    let out = make(before, events, pool);
+    let reply = out.reply;
+    let digest = mixed(run.digest, reply.transfer, reply.actions, pool);
+    let driver = out.driver;
+    Run {
+        driver: driver,
+        digest: digest,
+    }
+}
+
+// The events, one after another.
+fn round(begun: Run, events: &[u8], pool: &mut [u8]) -> Run {
+    let mut run = begun;
+    let mut i = 0;
+    while i < events.len() {
+        run = step(run, &events[i..], pool);
+        let n = width(&events[i..]);
+        if events.len() - i < n {
+            return run;
+        }
+        i += n;
+    }
+    run
+}
+
+fn all_rounds(begun: Run, events: &[u8], rounds: u32, pool: &mut [u8]) -> Run {
+    let mut run = begun;
+    let mut left = rounds;
+    while 0 < left {
+        run = round(run, events, pool);
+        left -= 1;
+    }
+    run
+}
+
+pub fn run_scenario(setup: &[u8], events: &[u8], rounds: u32, pool: &mut [u8]) -> Digest {
+    let begun = round(first(), setup, pool);
+    let ended = all_rounds(begun, events, rounds, pool);
+    ended.digest
+}
