@@ -7,3 +7,4 @@ pub mod StarredProofs
 pub mod OwnBuffers
 pub mod StarredSteps
 pub mod StarredOccur
+pub mod Twice

@@ -53,6 +53,11 @@ twiceBelow r (suc n) = twiceBelow r n || ltb 1 (countOf r n)
 abbrev pub recordedTwice : Buffers → Bool
 recordedTwice r = twiceBelow r 19
 
+-- the buffer in the place, of 0 to 18, is recorded twice
+abbrev pub slotTwice : Buffers → Slot → Bool
+slotTwice r Empty = false
+slotTwice r (Held c l) = ltb c 19 && ltb 1 (countOf r c)
+
 -- clause: an own buffer recorded in none
 abbrev pub ownNowhere : Buffers → Bool
 ownNowhere r = not (recordHas r 16) || (not (recordHas r 17) || not (recordHas r 18))

@@ -7,8 +7,9 @@ use rf233_core::interrupt::is_held;
 use rf233_core::state::state_number;
 ghost use mathlib.Core.Path.{_≡_};
 ghost use Prim.Native.Nat.{_≤_};
+ghost use lib.Dec.{ltb};
 ghost use Rattle.rf233_core.specs.State.{stateFrame};
-ghost use Rattle.rf233.specs.Record.{slotHas, underHas, ownHas, one, countOf, recordHas, recordedTwice, ownNowhere, slotAbove, underSlot, clientAbove, sending, receiving, txLengthBad, rxLengthBad, lengthBad, heldBesides, frameNo, frameUnfit, bufferMissing, described};
+ghost use Rattle.rf233.specs.Record.{slotHas, underHas, ownHas, one, countOf, recordHas, recordedTwice, slotTwice, ownNowhere, slotAbove, underSlot, clientAbove, sending, receiving, txLengthBad, rxLengthBad, lengthBad, heldBesides, frameNo, frameUnfit, bufferMissing, described};
 
 // The place has the buffer.
 pub(crate) fn slot_has(slot: Slot, buffer: u8) -> bool
@@ -67,17 +68,33 @@ pub fn record_has(b: Buffers, buffer: u8) -> bool
     0 < count_of(b, buffer)
 }
 
-// Clause: a buffer of 0 to 18 recorded in two places.
+// The buffer is recorded twice.
+fn twice_at(b: Buffers, buffer: u8) -> bool
+    ensures { λ r. ⌜ r ≡ ltb 1 (countOf b buffer) ⌝ }
+{
+    1 < count_of(b, buffer)
+}
+
+// The buffer in the place is recorded twice.
+fn slot_twice(b: Buffers, slot: Slot) -> bool
+    ensures { λ r. ⌜ r ≡ slotTwice b slot ⌝ }
+{
+    match slot {
+        Slot::Empty => false,
+        Slot::Held(buffer, _) => (buffer < 19) & twice_at(b, buffer),
+    }
+}
+
+// Clause: a buffer of 0 to 18 recorded in two places. One that is recorded at all is an own one or stands in a client's place.
 fn recorded_twice(b: Buffers) -> bool
     ensures { λ r. ⌜ r ≡ recordedTwice b ⌝ }
 {
-    let mut twice = false;
-    let mut k: u8 = 0;
-    while k < 19 {
-        twice = twice | (1 < count_of(b, k));
-        k += 1;
-    }
-    twice
+    let tx_buf = b.tx_buf;
+    let rx_buf = b.rx_buf;
+    let under = b.under;
+    let own = twice_at(b, 16) | (twice_at(b, 17) | twice_at(b, 18));
+    let client = slot_twice(b, tx_buf) | (slot_twice(b, rx_buf) | slot_twice(b, under_slot(under)));
+    own | client
 }
 
 // Clause: an own buffer recorded in none.
