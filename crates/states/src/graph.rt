@@ -277,5 +277,9 @@ pub fn graph(out: &mut [u8]) -> usize {
     let b = clusters(out, a);
     let c = completions(out, b);
     let d = events(out, c);
-    text(out, d, b"}\n")
+    text(
+        out,
+        d,
+        b"  labelloc=t; label=\"AT86RF233 driver. Black: a completion, with its condition and the transfer that it starts. Blue: an interrupt. Green: a call. Red: the arrow goes on at that state.\";\n}\n",
+    )
 }
