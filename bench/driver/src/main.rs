@@ -55,9 +55,14 @@ fn alone(name: &str, of: &str, rounds: &str) -> Result<(), String> {
     let scenarios = Scenario::all();
     let scenario = scenarios.iter().find(|scenario| scenario.name == name);
     let scenario = scenario.ok_or_else(|| format!("no scenario {name}"))?;
-    let rounds = rounds.parse().map_err(|_| format!("{rounds} is no number"))?;
+    let rounds = rounds
+        .parse()
+        .map_err(|_| format!("{rounds} is no number"))?;
     let digest = side(of)?(scenario, rounds);
-    println!("{name} {of}: {} steps, digest {digest:016x}", scenario.steps(rounds));
+    println!(
+        "{name} {of}: {} steps, digest {digest:016x}",
+        scenario.steps(rounds)
+    );
     Ok(())
 }
 
@@ -94,7 +99,10 @@ fn compared() -> Result<(), String> {
     for scenario in Scenario::all() {
         let (rust, port) = rates(&scenario, 1000)?;
         let ratio = rust / port;
-        println!("{:16} rust {rust:8.2}   port {port:8.2}   port takes {ratio:.2} times as long", scenario.name);
+        println!(
+            "{:16} rust {rust:8.2}   port {port:8.2}   port takes {ratio:.2} times as long",
+            scenario.name
+        );
     }
     Ok(())
 }

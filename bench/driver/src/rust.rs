@@ -23,7 +23,10 @@ pub struct Rig {
 impl Rig {
     pub fn new() -> Rig {
         let around = Around::leak();
-        Rig { around, driver: driver(around) }
+        Rig {
+            around,
+            driver: driver(around),
+        }
     }
 
     pub fn make(&mut self, event: &[u8]) {
@@ -49,7 +52,11 @@ impl Rig {
 
     fn complete(&mut self, arrived: &[u8]) {
         self.around.first.set(0);
-        let (write, mut read) = self.around.under_way.take().expect("a transfer is under way");
+        let (write, mut read) = self
+            .around
+            .under_way
+            .take()
+            .expect("a transfer is under way");
         if let Some(read) = &mut read {
             read[..arrived.len()].copy_from_slice(arrived);
         }

@@ -30,7 +30,11 @@ impl Scenario {
 }
 
 fn of(name: &'static str, setup: Vec<u8>, events: Vec<u8>) -> Scenario {
-    Scenario { name, setup, events }
+    Scenario {
+        name,
+        setup,
+        events,
+    }
 }
 
 /// The events of a list, each as its bytes.

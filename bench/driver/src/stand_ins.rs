@@ -54,7 +54,9 @@ impl Around {
     }
 
     fn tell(&self, bytes: &[u8]) {
-        let told = bytes.iter().fold(self.told.get(), |digest, byte| mix(digest, *byte));
+        let told = bytes
+            .iter()
+            .fold(self.told.get(), |digest, byte| mix(digest, *byte));
         self.told.set(told);
     }
 }
@@ -62,14 +64,22 @@ impl Around {
 impl<'a> spi::SpiMasterDevice<'a> for Around {
     fn set_client(&self, _client: &'a dyn spi::SpiMasterClient) {}
 
-    fn configure(&self, _: spi::ClockPolarity, _: spi::ClockPhase, _: u32) -> Result<(), ErrorCode> {
+    fn configure(
+        &self,
+        _: spi::ClockPolarity,
+        _: spi::ClockPhase,
+        _: u32,
+    ) -> Result<(), ErrorCode> {
         Ok(())
     }
 
     fn read_write_bytes(&self, write: Buffer, read: Option<Buffer>) -> Result<(), spi::Declined> {
         let length = read.as_ref().map_or(0, |read| read.len());
         let sent = mix(self.sent.get(), length as u8);
-        let sent = write.as_slice().iter().fold(sent, |digest, byte| mix(digest, *byte));
+        let sent = write
+            .as_slice()
+            .iter()
+            .fold(sent, |digest, byte| mix(digest, *byte));
         self.sent.set(sent);
         self.first.set(write[0]);
         self.under_way.set(Some((write, read)));
@@ -108,7 +118,12 @@ impl radio::ConfigClient for Around {
 
 impl radio::TxClient for Around {
     fn send_done(&self, buf: &'static mut [u8], acked: bool, result: Result<(), ErrorCode>) {
-        self.tell(&[2, self.pool.number(buf), acked.into(), result.is_err().into()]);
+        self.tell(&[
+            2,
+            self.pool.number(buf),
+            acked.into(),
+            result.is_err().into(),
+        ]);
     }
 }
 
