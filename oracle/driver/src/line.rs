@@ -177,3 +177,11 @@ pub fn text<'a>(lines: impl IntoIterator<Item = &'a Line>) -> String {
 fn list(f: &mut fmt::Formatter, bytes: &[u8]) -> fmt::Result {
     bytes.iter().try_for_each(|byte| write!(f, " {byte}"))
 }
+
+/// Writes a script to the file that was asked for, where one was.
+pub fn keep(file: Option<&str>, lines: &[Line]) -> Result<(), String> {
+    match file {
+        None => Ok(()),
+        Some(file) => std::fs::write(file, text(lines)).map_err(|error| format!("{file}: {error}")),
+    }
+}

@@ -1,14 +1,13 @@
 //! `compare`: generated scripts through the Rust and through a command that should say
 //! the same, or leave the same trace; the first difference is cut down and shown.
 
-use std::fs;
 use std::process::ExitCode;
 
 use oracle::command::{self, Failure, Ran};
 use oracle::coverage::Coverage;
 use oracle::difference::{Difference, judged};
 use oracle::generator::{Wish, script};
-use oracle::line::{Line, text};
+use oracle::line::{Line, keep, text};
 use oracle::options::Options;
 use oracle::progress::Progress;
 use oracle::session::Session;
@@ -119,16 +118,9 @@ fn difference(arguments: &Arguments, judge: &[u8], ran: &Ran) -> Option<String> 
 
 /// Says why there is nothing to compare, and keeps the script.
 fn failed(arguments: &Arguments, seed: u64, lines: &[Line], failure: &Failure) -> String {
-    match keep(arguments, lines) {
+    match keep(arguments.keep.as_deref(), lines) {
         Ok(()) => format!("seed {seed}: {} {failure}", arguments.command[0]),
         Err(error) => error,
-    }
-}
-
-fn keep(arguments: &Arguments, lines: &[Line]) -> Result<(), String> {
-    match &arguments.keep {
-        None => Ok(()),
-        Some(file) => fs::write(file, text(lines)).map_err(|error| format!("{file}: {error}")),
     }
 }
 
@@ -150,7 +142,7 @@ fn report(
         }
         shows
     });
-    keep(arguments, &smallest)?;
+    keep(arguments.keep.as_deref(), &smallest)?;
     let count = smallest.len();
     println!("a difference; the script, cut down from {whole} lines to {count}:");
     print!("{}{difference}", text(&smallest));

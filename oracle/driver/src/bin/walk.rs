@@ -1,14 +1,13 @@
 //! `walk`: every next step from every reachable control state, through the Rust and
 //! through a command that should say the same.
 
-use std::fs;
 use std::process::ExitCode;
 use std::thread::{self, JoinHandle};
 use std::time::Instant;
 
 use oracle::command::{self, Ran};
 use oracle::difference::{Difference, judged};
-use oracle::line::{Line, text};
+use oracle::line::{Line, keep, text};
 use oracle::options::Options;
 use oracle::progress::Progress;
 use oracle::session::Session;
@@ -145,7 +144,7 @@ fn same(arguments: &Arguments, running: JoinHandle<Answered>) -> Result<bool, St
     let ran = match ran {
         Ok(ran) => ran,
         Err(error) => {
-            keep(arguments, &batch.lines)?;
+            keep(arguments.keep.as_deref(), &batch.lines)?;
             return Err(error);
         }
     };
@@ -155,13 +154,6 @@ fn same(arguments: &Arguments, running: JoinHandle<Answered>) -> Result<bool, St
             report(arguments, &batch, &ran, difference)?;
             Ok(false)
         }
-    }
-}
-
-fn keep(arguments: &Arguments, lines: &[Line]) -> Result<(), String> {
-    match &arguments.keep {
-        None => Ok(()),
-        Some(file) => fs::write(file, text(lines)).map_err(|error| format!("{file}: {error}")),
     }
 }
 
@@ -185,7 +177,7 @@ fn report(
     let part = batch.part_that_differs(&ran.output);
     let script = if shows(part) { part } else { &batch.lines };
     let smallest = shrink(script.to_vec(), shows);
-    keep(arguments, &smallest)?;
+    keep(arguments.keep.as_deref(), &smallest)?;
     let (whole, count) = (batch.lines.len(), smallest.len());
     println!("a difference; the script, cut down from {whole} lines to {count}:");
     print!("{}{difference}", text(&smallest));
