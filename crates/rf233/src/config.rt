@@ -5,11 +5,9 @@ use rf233_const::register::RF233Register;
 use rf233_const::trx_state::RF233TrxCmd;
 use rf233_core::action::Action;
 use rf233_core::action::action_list;
-use rf233_core::action::no_actions;
 use rf233_core::answer::Answer;
 use rf233_core::answer::Outcome;
 use rf233_core::answer::refuse;
-use rf233_core::answer::step_of;
 use rf233_core::driver::Driver;
 use rf233_core::driver::Settings;
 use rf233_core::power::power_fits;
@@ -23,7 +21,6 @@ use rf233_core::step::state_transition_write;
 use rf233_core::step::stay;
 use rf233_core::step::trx_command;
 use rf233_core::step::with_flags;
-use rf233_core::transfer::register_read;
 ghost use mathlib.Core.Path.{_≡_};
 ghost use Rattle.rf233.specs.Calls.{started, startCall, stopped, stopCall, committing, commitCall, resetCall, withSettings, setAddress, setAddressLong, setPan, setPower, setChannel, channelFits, isBusy};
 
@@ -37,10 +34,7 @@ fn begin_start(d: Driver) -> Outcome
     }
     let mut flags = d.flags;
     flags.wake_pending = true;
-    step_of(
-        register_read(with_flags(d, flags), RF233Register::PART_NUM),
-        no_actions(),
-    )
+    state_transition_read(with_flags(d, flags), RF233Register::PART_NUM, s)
 }
 
 pub fn start(d: Driver, pool: &mut [u8]) -> Outcome

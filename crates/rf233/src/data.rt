@@ -10,9 +10,10 @@ use rf233_const::register::RF233Register;
 use rf233_core::answer::Answer;
 use rf233_core::answer::Outcome;
 use rf233_core::answer::refuse;
-use rf233_core::driver::Buffers;
 use rf233_core::driver::Driver;
 use rf233_core::driver::Slot;
+use rf233_core::driver::with_rx_buf;
+use rf233_core::driver::with_tx_buf;
 use rf233_core::interrupt::is_held;
 use rf233_core::state::InternalState;
 use rf233_core::state::state_number;
@@ -23,7 +24,7 @@ use rf233_core::step::with_flags;
 ghost use mathlib.Core.Path.{_≡_};
 ghost use Prim.Native.Nat.{_+_, _≤_};
 ghost use lib.Dec.{leb};
-ghost use Rattle.rf233.specs.Calls.{handleBad, txBusy, rxFull, lent, transmitting, transmitCall, receiveBufferCall};
+ghost use Rattle.rf233.specs.Calls.{handleBad, txBusy, rxFull, transmitting, transmitCall, receiveBufferCall};
 
 // Refusal 7: a buffer that is no client's, or longer than a buffer of the pool.
 fn handle_bad(buffer: usize, length: usize) -> bool
@@ -67,32 +68,13 @@ fn size_bad(length: usize, frame_len: usize) -> bool
     length - 4 <= frame_len
 }
 
-// The record with these client's places and this n.
-fn lend(b: Buffers, tx_buf: Slot, rx_buf: Slot, n: u8) -> Buffers
-    ensures { λ r. ⌜ r ≡ lent «tx_buf» «rx_buf» n b ⌝ }
-{
-    let under = b.under;
-    Buffers {
-        spi_tx: b.spi_tx,
-        spi_rx: b.spi_rx,
-        spi_buf: b.spi_buf,
-        spi_buf_whole: b.spi_buf_whole,
-        spi_buf_len: b.spi_buf_len,
-        tx_buf: tx_buf,
-        rx_buf: rx_buf,
-        tx_len: n,
-        under: under,
-    }
-}
-
 // The buffer is held and the driver is transmitting; in READY, while nothing is being received, the send begins at once.
 fn begin_transmit(d: Driver, buffer: u8, length: u8, frame_len: u8) -> Outcome
     requires { ⌜ «frame_len» ≤ 125 ⌝ }
     ensures { λ r. ⌜ r ≡ transmitting d buffer length «frame_len» ⌝ }
 {
-    let b = d.buffers;
-    let rx_buf = b.rx_buf;
-    let lent = lend(b, Slot::Held(buffer, length), rx_buf, frame_len + 2);
+    let mut lent = with_tx_buf(d.buffers, Slot::Held(buffer, length));
+    lent.tx_len = frame_len + 2;
     let mut flags = d.flags;
     flags.transmitting = true;
     let e = with_flags(with_buffers(d, lent), flags);
@@ -162,7 +144,6 @@ pub fn set_receive_buffer(d: Driver, buffer: usize, length: usize) -> Outcome
     if record_has(b, place) {
         return refuse(Answer::Held, d);
     }
-    let tx_buf = b.tx_buf;
-    let lent = lend(b, tx_buf, Slot::Held(place, length as u8), b.tx_len);
+    let lent = with_rx_buf(b, Slot::Held(place, length as u8));
     stay(with_buffers(d, lent))
 }

@@ -1,3 +1,4 @@
+mod FieldWrite
 pub mod Conditions
 pub mod StateTests
 pub mod Onward

@@ -18,7 +18,7 @@ use Rattle.rf233_core.specs.Rows.Shown.{plain, powerChanged, configDone,
 use Rattle.rf233_core.specs.Rows.Next.{same, to}
 use Rattle.rf233_core.specs.Rows.Row.{does}
 use Rattle.rf233_core.specs.State.{stateNo}
-use Rattle.rf233_core.specs.Transfer.{refrains, registerRead, registerWrite, frameRead, frameWrite, recorded}
+use Rattle.rf233_core.specs.Transfer.{withTx, withRx, refrains, registerRead, registerWrite, frameRead, frameWrite}
 use Rattle.rf233_core.specs.Value.{valueOf}
 use Rattle.rf233_core.specs.declared.action.Action.{Action}
 use Rattle.rf233_core.specs.declared.action.Action.the-variants.{Power, Sent, Received, ConfigDone, Dropped}
@@ -70,10 +70,10 @@ shown a d (s ∷ more) = show a d s (shown a d more)
 
 -- the record with the transmit place, or the receive place, emptied
 abbrev pub withoutTx : Buffers → Buffers
-withoutTx b = recorded (b .«spi_tx») (b .«spi_rx») (b .«spi_buf») (b .«spi_buf_len») Empty (b .«rx_buf») (b .under) b
+withoutTx b = withTx Empty b
 
 abbrev pub withoutRx : Buffers → Buffers
-withoutRx b = recorded (b .«spi_tx») (b .«spi_rx») (b .«spi_buf») (b .«spi_buf_len») (b .«tx_buf») Empty (b .under) b
+withoutRx b = withRx Empty b
 
 -- a buffer that an action hands back leaves its place
 abbrev pub handed : List Shown → Buffers → Buffers

@@ -47,6 +47,16 @@ recorded t r s l x y u b =
       under = u;
     }
 
+-- the record with another transfer under way, transmit place or receive place
+abbrev pub withUnder : Under → Buffers → Buffers
+withUnder u b = recorded (b .«spi_tx») (b .«spi_rx») (b .«spi_buf») (b .«spi_buf_len») (b .«tx_buf») (b .«rx_buf») u b
+
+abbrev pub withTx : Slot → Buffers → Buffers
+withTx x b = recorded (b .«spi_tx») (b .«spi_rx») (b .«spi_buf») (b .«spi_buf_len») x (b .«rx_buf») (b .under) b
+
+abbrev pub withRx : Slot → Buffers → Buffers
+withRx x b = recorded (b .«spi_tx») (b .«spi_rx») (b .«spi_buf») (b .«spi_buf_len») (b .«tx_buf») x (b .under) b
+
 -- nothing begins
 abbrev pub refrains : Driver → Started
 refrains d = record { began = false; driver = d; transfer = noTransfer }

@@ -5,53 +5,39 @@ use crate::driver::Buffers;
 use crate::driver::Driver;
 use crate::driver::Slot;
 use crate::driver::Under;
+use crate::driver::with_rx_buf;
 use crate::driver::with_state;
+use crate::driver::with_tx_buf;
+use crate::driver::with_under;
 use crate::interrupt::interrupt_result;
 use crate::interrupt::ready_bookkeeping;
 use crate::state::InternalState;
 use crate::state::state_number;
 use crate::step::with_buffers;
-use crate::step::with_flags;
 ghost use mathlib.Core.Path.{_≡_};
 ghost use Rattle.rf233_core.specs.Completion.{back, frameDone, returned, completed};
-ghost use Rattle.rf233_core.specs.Transfer.{recorded};
 
 // The record of the buffers once the transfer is over.
 fn buffers_back(b: Buffers) -> Buffers
     ensures { λ r. ⌜ r ≡ back (b .under) b ⌝ }
 {
     let under = b.under;
-    let tx_buf = b.tx_buf;
-    let rx_buf = b.rx_buf;
+    let mut back = with_under(b, Under::Idle);
     match under {
         Under::Idle => b,
-        Under::Register => placed(b, true, true, b.spi_buf, tx_buf, rx_buf),
-        Under::FrameRead(c, l) => placed(b, b.spi_tx, b.spi_rx, true, tx_buf, Slot::Held(c, l)),
-        Under::FrameWrite(c, l) => placed(b, b.spi_tx, b.spi_rx, true, Slot::Held(c, l), rx_buf),
-    }
-}
-
-// The record with these buffers in their places and no transfer under way.
-fn placed(
-    b: Buffers,
-    spi_tx: bool,
-    spi_rx: bool,
-    spi_buf: bool,
-    tx_buf: Slot,
-    rx_buf: Slot,
-) -> Buffers
-    ensures { λ r. ⌜ r ≡ recorded «spi_tx» «spi_rx» «spi_buf» (b .«spi_buf_len») «tx_buf» «rx_buf» Under.Idle b ⌝ }
-{
-    Buffers {
-        spi_tx: spi_tx,
-        spi_rx: spi_rx,
-        spi_buf: spi_buf,
-        spi_buf_whole: b.spi_buf_whole,
-        spi_buf_len: b.spi_buf_len,
-        tx_buf: tx_buf,
-        rx_buf: rx_buf,
-        tx_len: b.tx_len,
-        under: Under::Idle,
+        Under::Register => {
+            back.spi_tx = true;
+            back.spi_rx = true;
+            back
+        }
+        Under::FrameRead(c, l) => {
+            back.spi_buf = true;
+            with_rx_buf(back, Slot::Held(c, l))
+        }
+        Under::FrameWrite(c, l) => {
+            back.spi_buf = true;
+            with_tx_buf(back, Slot::Held(c, l))
+        }
     }
 }
 
@@ -79,12 +65,12 @@ fn frame_done(handling: bool, state: InternalState) -> InternalState
 fn transfer_over(d: Driver) -> Driver
     ensures { λ r. ⌜ r ≡ returned d ⌝ }
 {
-    let mut flags = d.flags;
+    let flags = d.flags;
     let s = d.state;
     let done = frame_done(flags.interrupt_handling, s);
-    let back = with_buffers(d, buffers_back(d.buffers));
-    flags.interrupt_handling = false;
-    with_flags(with_state(back, done), flags)
+    let mut next = with_buffers(with_state(d, done), buffers_back(d.buffers));
+    next.flags.interrupt_handling = false;
+    next
 }
 
 // The step of a completion, once its bytes have been copied.

@@ -2,6 +2,7 @@
 use crate::state::InternalState;
 ghost use mathlib.Core.Path.{_≡_};
 ghost use Rattle.rf233_core.specs.Driver.{inState};
+ghost use Rattle.rf233_core.specs.Transfer.{withUnder, withTx, withRx};
 
 // The Rust's cells of a bool, under its names. Its `spi_busy` is here the record of the transfer under way.
 pub struct Flags {
@@ -74,15 +75,34 @@ pub struct Driver {
 pub fn with_state(d: Driver, state: InternalState) -> Driver
     ensures { λ r. ⌜ r ≡ inState state d ⌝ }
 {
-    let flags = d.flags;
-    let clients = d.clients;
-    let settings = d.settings;
-    let buffers = d.buffers;
-    Driver {
-        state: state,
-        flags: flags,
-        clients: clients,
-        settings: settings,
-        buffers: buffers,
-    }
+    let mut next = d;
+    next.state = state;
+    next
+}
+
+// The record with another transfer under way.
+pub fn with_under(b: Buffers, under: Under) -> Buffers
+    ensures { λ r. ⌜ r ≡ withUnder under b ⌝ }
+{
+    let mut next = b;
+    next.under = under;
+    next
+}
+
+// The record with another transmit place.
+pub fn with_tx_buf(b: Buffers, slot: Slot) -> Buffers
+    ensures { λ r. ⌜ r ≡ withTx slot b ⌝ }
+{
+    let mut next = b;
+    next.tx_buf = slot;
+    next
+}
+
+// The record with another receive place.
+pub fn with_rx_buf(b: Buffers, slot: Slot) -> Buffers
+    ensures { λ r. ⌜ r ≡ withRx slot b ⌝ }
+{
+    let mut next = b;
+    next.rx_buf = slot;
+    next
 }

@@ -1,9 +1,7 @@
 // Interrupts: a firing, a pending one after a completion, and what the read of IRQ_STATUS showed.
-use crate::action::no_actions;
 use crate::answer::Answer;
 use crate::answer::Outcome;
 use crate::answer::Reply;
-use crate::answer::step_of;
 use crate::arrived::Arrived;
 use crate::case::own_case;
 use crate::driver::Driver;
@@ -19,13 +17,13 @@ use crate::step::stay;
 use crate::step::trx_command;
 use crate::step::with_flags;
 use crate::transfer::is_idle;
-use crate::transfer::register_read;
 use rf233_const::interrupt::InteruptFlags;
 use rf233_const::interrupt::interrupt_included;
 use rf233_const::register::RF233Register;
 use rf233_const::trx_state::RF233TrxCmd;
 ghost use mathlib.Core.Path.{_≡_};
-ghost use Rattle.rf233_core.specs.Completion.{handleInterrupt, fallsOn, waitingCommit, putsOff, pendingInterrupt, readyBookkeeping, interruptState, has, frameEnd, interruptResult};
+ghost use Rattle.rf233_core.specs.Choice.{pick};
+ghost use Rattle.rf233_core.specs.Completion.{handleInterrupt, fallsOn, waitingCommit, putsOff, pendingInterrupt, inNo, nowOn, readyBookkeeping, interruptState, has, frameEnd, interruptResult};
 ghost use Rattle.rf233_core.specs.State.{stateNo};
 
 // The firing itself: IRQ_STATUS is read, unless a transfer is under way. In RX reception is turned off first, so that the frame is not
@@ -40,10 +38,7 @@ pub fn handle_interrupt(d: Driver) -> Outcome
             return trx_command(d, RF233TrxCmd::PLL_ON, InternalState::RX_TURNING_OFF);
         }
         flags.interrupt_handling = true;
-        return step_of(
-            register_read(with_flags(d, flags), RF233Register::IRQ_STATUS),
-            no_actions(),
-        );
+        return state_transition_read(with_flags(d, flags), RF233Register::IRQ_STATUS, s);
     }
     flags.interrupt_pending = true;
     stay(with_flags(d, flags))
@@ -112,8 +107,8 @@ pub fn pending_interrupt(d: Driver, a: Arrived) -> Outcome
 }
 
 // READY means that the radio is on; if it was off, the power listener is to be told.
-pub fn ready_bookkeeping(d: Driver, a: Arrived) -> Outcome
-    ensures { λ r. ⌜ r ≡ readyBookkeeping a d ⌝ }
+fn ready_marked(d: Driver) -> Driver
+    ensures { λ r. ⌜ r ≡ pick (inNo 29 d) (nowOn d) d ⌝ }
 {
     let s = d.state;
     if state_number(s) == 29 {
@@ -121,9 +116,16 @@ pub fn ready_bookkeeping(d: Driver, a: Arrived) -> Outcome
         flags.wake_pending = false;
         flags.power_client_pending = !flags.radio_on | flags.power_client_pending;
         flags.radio_on = true;
-        return pending_interrupt(with_flags(d, flags), a);
+        return with_flags(d, flags);
     }
-    pending_interrupt(d, a)
+    d
+}
+
+// READY bookkeeping, and what follows it.
+pub fn ready_bookkeeping(d: Driver, a: Arrived) -> Outcome
+    ensures { λ r. ⌜ r ≡ readyBookkeeping a d ⌝ }
+{
+    pending_interrupt(ready_marked(d), a)
 }
 
 // The state that the interrupt leads to.

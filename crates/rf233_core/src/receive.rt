@@ -5,9 +5,9 @@ use crate::action::one_action;
 use crate::answer::Outcome;
 use crate::answer::step_of;
 use crate::arrived::Arrived;
-use crate::driver::Buffers;
 use crate::driver::Driver;
 use crate::driver::Slot;
+use crate::driver::with_rx_buf;
 use crate::driver::with_state;
 use crate::state::InternalState;
 use crate::step::buffer_in;
@@ -25,7 +25,7 @@ ghost use mathlib.Core.Path.{_≡_};
 ghost use mathlib.Core.Bool.{true};
 ghost use mathlib.Core.List.{[], _∷_};
 ghost use Rattle.rf233_core.specs.Choice.{oneOf};
-ghost use Rattle.rf233_core.specs.Engine.{own, withoutRx, received, onwardRead};
+ghost use Rattle.rf233_core.specs.Engine.{own, received, onwardRead};
 ghost use Rattle.rf233_core.specs.State.{stateNo};
 
 pub fn receive_case(d: Driver, a: Arrived) -> Outcome
@@ -114,7 +114,7 @@ fn rx_enabling_reception(d: Driver, a: Arrived) -> Outcome
     flags.sleep_pending = false;
     let e = with_flags(d, flags);
     if clients.rx_client {
-        let given = with_buffers(e, without_rx(d.buffers));
+        let given = with_buffers(e, with_rx_buf(d.buffers, Slot::Empty));
         return with_actions(onward_read(given), one_action(received_of(d, a.length)));
     }
     onward_read(e)
@@ -133,25 +133,6 @@ fn onward_read(d: Driver) -> Outcome
         );
     }
     state_transition_read(d, RF233Register::TRX_STATUS, InternalState::READY)
-}
-
-// The record with the receive place emptied.
-fn without_rx(b: Buffers) -> Buffers
-    ensures { λ r. ⌜ r ≡ withoutRx b ⌝ }
-{
-    let tx_buf = b.tx_buf;
-    let under = b.under;
-    Buffers {
-        spi_tx: b.spi_tx,
-        spi_rx: b.spi_rx,
-        spi_buf: b.spi_buf,
-        spi_buf_whole: b.spi_buf_whole,
-        spi_buf_len: b.spi_buf_len,
-        tx_buf: tx_buf,
-        rx_buf: Slot::Empty,
-        tx_len: b.tx_len,
-        under: under,
-    }
 }
 
 // The notice of a received frame. A second length byte of 0 or 1 gives length 0, check invalid.

@@ -1,4 +1,4 @@
-// The Rust's two state transitions, and a step that starts nothing.
+// The steps of a register transfer, the Rust's two state transitions among them, and a step that starts nothing.
 use crate::action::Actions;
 use crate::action::no_actions;
 use crate::answer::Outcome;
@@ -8,11 +8,16 @@ use crate::driver::Buffers;
 use crate::driver::Driver;
 use crate::driver::Flags;
 use crate::driver::Slot;
+use crate::driver::Under;
 use crate::driver::with_state;
+use crate::driver::with_under;
 use crate::state::InternalState;
+use crate::transfer::begin;
+use crate::transfer::is_idle;
 use crate::transfer::refrain;
-use crate::transfer::register_read;
-use crate::transfer::register_write;
+use crate::transfer::transfer_of;
+use rf233_const::command::register_read_command;
+use rf233_const::command::register_write_command;
 use rf233_const::register::RF233Register;
 use rf233_const::trx_state::RF233TrxCmd;
 use rf233_const::trx_state::trx_cmd_number;
@@ -20,9 +25,10 @@ ghost use mathlib.Core.Path.{_≡_};
 ghost use mathlib.Core.List.{[]};
 ghost use Rattle.rf233_const.specs.TrxState.{commandValue};
 ghost use Rattle.rf233_core.specs.Action.{actions};
-ghost use Rattle.rf233_core.specs.Answer.{quiet};
-ghost use Rattle.rf233_core.specs.Driver.{withFlags, withBuffers};
+ghost use Rattle.rf233_core.specs.Answer.{quiet, stepOf};
+ghost use Rattle.rf233_core.specs.Driver.{inState, withFlags, withBuffers};
 ghost use Rattle.rf233_core.specs.Engine.{transitionRead, transitionWrite, showing, bufferIn};
+ghost use Rattle.rf233_core.specs.Transfer.{registerTransfer};
 
 // The driver with other flags.
 pub fn with_flags(d: Driver, flags: Flags) -> Driver
@@ -56,10 +62,28 @@ pub fn stay(d: Driver) -> Outcome
     quiet_step(d, no_actions())
 }
 
+// A register transfer with these two bytes, unless one is under way or a register buffer is missing; and the next state. One function
+// makes the whole outcome: the driver is copied once.
+fn register_step(d: Driver, kind: u8, first: u8, second: u8, state: InternalState) -> Outcome
+    ensures { λ r. ⌜ r ≡ stepOf (registerTransfer kind first second (inState state d)) (actions []) ⌝ }
+{
+    let b = d.buffers;
+    let free = is_idle(b) & b.spi_tx & b.spi_rx;
+    let next = with_state(d, state);
+    if free {
+        let mut taken = with_under(b, Under::Register);
+        taken.spi_tx = false;
+        taken.spi_rx = false;
+        let begun = transfer_of(kind, 16, 17, first, second, 2, 2);
+        return step_of(begin(next, taken, begun), no_actions());
+    }
+    stay(next)
+}
+
 pub fn state_transition_read(d: Driver, reg: RF233Register, state: InternalState) -> Outcome
     ensures { λ r. ⌜ r ≡ transitionRead reg state d ⌝ }
 {
-    step_of(register_read(with_state(d, state), reg), no_actions())
+    register_step(d, 1, register_read_command(reg), 0, state)
 }
 
 pub fn state_transition_write(
@@ -70,7 +94,7 @@ pub fn state_transition_write(
 ) -> Outcome
     ensures { λ r. ⌜ r ≡ transitionWrite reg val state d ⌝ }
 {
-    step_of(register_write(with_state(d, state), reg, val), no_actions())
+    register_step(d, 2, register_write_command(reg), val, state)
 }
 
 // A command to the radio, and the next state.

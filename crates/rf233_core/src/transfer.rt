@@ -1,15 +1,15 @@
-// The four transfers: a register read or write, a frame read or write. Each starter says whether it began.
+// A transfer as it goes out, and the two frame transfers. Each starter says whether it began. A register transfer is a step of its own.
 use crate::driver::Buffers;
 use crate::driver::Driver;
 use crate::driver::Slot;
 use crate::driver::Under;
+use crate::driver::with_rx_buf;
+use crate::driver::with_tx_buf;
+use crate::driver::with_under;
 use rf233_const::command::frame_read_command;
 use rf233_const::command::frame_write_command;
-use rf233_const::command::register_read_command;
-use rf233_const::command::register_write_command;
-use rf233_const::register::RF233Register;
 ghost use mathlib.Core.Path.{_≡_};
-ghost use Rattle.rf233_core.specs.Transfer.{noTransfer, isIdle, transferOf, refrains, begins, registerTransfer, registerRead, registerWrite, frameRead, frameReadInto, frameWrite, frameWriteFrom};
+ghost use Rattle.rf233_core.specs.Transfer.{noTransfer, isIdle, transferOf, refrains, begins, frameRead, frameReadInto, frameWrite, frameWriteFrom};
 
 // A transfer as it goes out: document 01's kind, 1 to 4, or 0 for none; the buffer sent from and the buffer read into; the first byte
 // sent; the second byte of a register transfer, or a frame transfer's n; the lengths of the two buffers.
@@ -57,7 +57,7 @@ pub fn is_idle(b: Buffers) -> bool
     }
 }
 
-fn transfer_of(
+pub fn transfer_of(
     kind: u8,
     write: u8,
     read: u8,
@@ -80,7 +80,7 @@ fn transfer_of(
 }
 
 // The transfer begins, and the record of the buffers is then this.
-fn begin(d: Driver, buffers: Buffers, begun: Transfer) -> Started
+pub fn begin(d: Driver, buffers: Buffers, begun: Transfer) -> Started
     ensures { λ r. ⌜ r ≡ begins begun buffers d ⌝ }
 {
     let mut next = d;
@@ -104,44 +104,6 @@ pub fn refrain(d: Driver) -> Started
     }
 }
 
-// A register transfer with these two bytes, unless one is under way or a register buffer is missing.
-fn register_transfer(d: Driver, kind: u8, first: u8, second: u8) -> Started
-    ensures { λ r. ⌜ r ≡ registerTransfer kind first second d ⌝ }
-{
-    let b = d.buffers;
-    let free = is_idle(b) & b.spi_tx & b.spi_rx;
-    if free {
-        let tx_buf = b.tx_buf;
-        let rx_buf = b.rx_buf;
-        let taken = Buffers {
-            spi_tx: false,
-            spi_rx: false,
-            spi_buf: b.spi_buf,
-            spi_buf_whole: b.spi_buf_whole,
-            spi_buf_len: b.spi_buf_len,
-            tx_buf: tx_buf,
-            rx_buf: rx_buf,
-            tx_len: b.tx_len,
-            under: Under::Register,
-        };
-        let begun = transfer_of(kind, 16, 17, first, second, 2, 2);
-        return begin(d, taken, begun);
-    }
-    refrain(d)
-}
-
-pub fn register_read(d: Driver, reg: RF233Register) -> Started
-    ensures { λ r. ⌜ r ≡ registerRead reg d ⌝ }
-{
-    register_transfer(d, 1, register_read_command(reg), 0)
-}
-
-pub fn register_write(d: Driver, reg: RF233Register, val: u8) -> Started
-    ensures { λ r. ⌜ r ≡ registerWrite reg val d ⌝ }
-{
-    register_transfer(d, 2, register_write_command(reg), val)
-}
-
 // A frame read of n bytes into the receive buffer.
 pub fn frame_read(d: Driver, n: u8) -> Started
     ensures { λ r. ⌜ r ≡ frameRead n d ⌝ }
@@ -160,19 +122,11 @@ fn frame_read_into(d: Driver, buffer: u8, length: u8, n: u8) -> Started
     let b = d.buffers;
     let free = is_idle(b) & b.spi_buf;
     if free {
-        let tx_buf = b.tx_buf;
         let write_len = n as u16 + 2;
-        let taken = Buffers {
-            spi_tx: b.spi_tx,
-            spi_rx: b.spi_rx,
-            spi_buf: false,
-            spi_buf_whole: b.spi_buf_whole,
-            spi_buf_len: write_len,
-            tx_buf: tx_buf,
-            rx_buf: Slot::Empty,
-            tx_len: b.tx_len,
-            under: Under::FrameRead(buffer, length),
-        };
+        let going = with_under(b, Under::FrameRead(buffer, length));
+        let mut taken = with_rx_buf(going, Slot::Empty);
+        taken.spi_buf = false;
+        taken.spi_buf_len = write_len;
         let begun = transfer_of(
             3,
             18,
@@ -205,19 +159,10 @@ fn frame_write_from(d: Driver, buffer: u8, length: u8) -> Started
     let b = d.buffers;
     let free = is_idle(b) & b.spi_buf;
     if free {
-        let rx_buf = b.rx_buf;
         let n = b.tx_len;
-        let taken = Buffers {
-            spi_tx: b.spi_tx,
-            spi_rx: b.spi_rx,
-            spi_buf: false,
-            spi_buf_whole: b.spi_buf_whole,
-            spi_buf_len: b.spi_buf_len,
-            tx_buf: Slot::Empty,
-            rx_buf: rx_buf,
-            tx_len: n,
-            under: Under::FrameWrite(buffer, length),
-        };
+        let going = with_under(b, Under::FrameWrite(buffer, length));
+        let mut taken = with_tx_buf(going, Slot::Empty);
+        taken.spi_buf = false;
         let begun = transfer_of(
             4,
             buffer,

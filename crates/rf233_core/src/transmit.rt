@@ -5,10 +5,10 @@ use crate::action::one_action;
 use crate::answer::Outcome;
 use crate::answer::step_of;
 use crate::arrived::Arrived;
-use crate::driver::Buffers;
 use crate::driver::Driver;
 use crate::driver::Slot;
 use crate::driver::with_state;
+use crate::driver::with_tx_buf;
 use crate::state::InternalState;
 use crate::step::buffer_in;
 use crate::step::state_transition_read;
@@ -28,7 +28,7 @@ ghost use mathlib.Core.Path.{_≡_};
 ghost use mathlib.Core.Bool.{true};
 ghost use mathlib.Core.List.{[], _∷_};
 ghost use Rattle.rf233_core.specs.Choice.{oneOf};
-ghost use Rattle.rf233_core.specs.Engine.{own, withoutTx, sendDone};
+ghost use Rattle.rf233_core.specs.Engine.{own, sendDone};
 ghost use Rattle.rf233_core.specs.State.{stateNo};
 
 pub fn transmit_case(d: Driver, a: Arrived) -> Outcome
@@ -140,7 +140,7 @@ fn tx_return_to_rx(d: Driver, a: Arrived) -> Outcome
         let tx_buf = buffers.tx_buf;
         let mut flags = d.flags;
         flags.transmitting = false;
-        let given = with_buffers(with_flags(d, flags), without_tx(buffers));
+        let given = with_buffers(with_flags(d, flags), with_tx_buf(buffers, Slot::Empty));
         let read = state_transition_read(given, RF233Register::TRX_STATUS, InternalState::READY);
         if clients.tx_client {
             return with_actions(read, one_action(send_done(tx_buf, a.result)));
@@ -148,25 +148,6 @@ fn tx_return_to_rx(d: Driver, a: Arrived) -> Outcome
         return with_actions(read, one_action(Action::Dropped(buffer_in(tx_buf))));
     }
     state_transition_read(d, RF233Register::TRX_STATUS, InternalState::TX_RETURN_TO_RX)
-}
-
-// The record with the transmit place emptied.
-fn without_tx(b: Buffers) -> Buffers
-    ensures { λ r. ⌜ r ≡ withoutTx b ⌝ }
-{
-    let rx_buf = b.rx_buf;
-    let under = b.under;
-    Buffers {
-        spi_tx: b.spi_tx,
-        spi_rx: b.spi_rx,
-        spi_buf: b.spi_buf,
-        spi_buf_whole: b.spi_buf_whole,
-        spi_buf_len: b.spi_buf_len,
-        tx_buf: Slot::Empty,
-        rx_buf: rx_buf,
-        tx_len: b.tx_len,
-        under: under,
-    }
 }
 
 // The notice of a sent frame.

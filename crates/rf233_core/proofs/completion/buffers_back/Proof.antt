@@ -9,23 +9,23 @@ returns c =
 
 returns-2 : tie.Need-returns-2
 returns-2 c =
-    rw (c .before .enum-told2 .given .1, c .placed .ensures)
+    rw (c .enum-told2 .given .1, c .before .before .with-under .ensures)
 
 returns-3 : tie.Need-returns-3
 returns-3 c =
-    rw (c .before .before .under .given .1, c .placed2 .ensures)
+    rw (c .before .before .under .given .1, c .with-rx-buf .ensures, c .before .before .before .before .with-under .ensures)
 
 returns-4 : tie.Need-returns-4
 returns-4 c =
-    rw (c .before .before .under2 .given .1, c .placed3 .ensures)
+    rw (c .before .before .under2 .given .1, c .with-tx-buf .ensures, c .before .before .before .before .with-under .ensures)
 
 pub buffers-back-spec : {M : Type 1} → statement M
 buffers-back-spec =
     tie.close
     (tie.spec
-    (λ c. search needs)
-    (λ c. search needs)
     (λ c κs. search needs)
+    (λ c. search needs)
+    (λ c. search needs)
     (λ c. search needs)
     (λ c κs. search needs)
     (λ c. search needs)

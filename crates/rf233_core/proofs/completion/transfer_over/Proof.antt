@@ -5,13 +5,12 @@ use Rattle.rf233_core.proofs.completion.transfer_over.Tie as tie
 
 returns : tie.Need-returns
 returns c =
-    rw (c .with-flags .ensures, c .before .with-state .ensures, c .before .before .with-buffers .ensures, c .before .before .before .buffers-back .ensures, c .before .before .before .before .frame-done .ensures)
+    rw (c .before .with-buffers .ensures, c .before .before .buffers-back .ensures, c .before .before .before .with-state .ensures, c .before .before .before .before .frame-done .ensures)
 
 pub transfer-over-spec : {M : Type 1} → statement M
 transfer-over-spec =
     tie.close
     (tie.spec
-    (λ c κs. search needs)
     (λ c κs. search needs)
     (λ c κs. search needs)
     (λ c κs. search needs)

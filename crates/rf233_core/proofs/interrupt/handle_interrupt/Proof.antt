@@ -14,7 +14,7 @@ returns c =
 returns-2 : tie.Need-returns-2
 unfolding handleInterrupt pick
 returns-2 c =
-    rw (rw (c .before .before .before .before .before .before .before .is-idle .ensures) at (c .before .before .before .before .before .before .if1 .taken), not-state (c .before .before .before .before .before .state-number .ensures) (c .before .before .before .before .if2 .left), c .step-of .ensures, c .before .no-actions .ensures, c .before .before .register-read .ensures, c .before .before .before .with-flags .ensures)
+    rw (rw (c .before .before .before .before .before .is-idle .ensures) at (c .before .before .before .before .if1 .taken), not-state (c .before .before .before .state-number .ensures) (c .before .before .if2 .left), c .state-transition-read .ensures, c .before .with-flags .ensures)
 
 returns-3 : tie.Need-returns-3
 unfolding handleInterrupt pick
@@ -29,8 +29,6 @@ handle-interrupt-spec =
     (λ c κs. search needs)
     (λ c κs. search needs)
     returns
-    (λ c κs. search needs)
-    (λ c κs. search needs)
     (λ c κs. search needs)
     (λ c κs. search needs)
     returns-2

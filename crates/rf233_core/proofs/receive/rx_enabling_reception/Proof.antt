@@ -22,7 +22,7 @@ returns c =
       c .before .before .received-of .ensures,
       c .before .before .before .onward-read .ensures,
       c .before .before .before .before .with-buffers .ensures,
-      c .before .before .before .before .before .without-rx .ensures,
+      c .before .before .before .before .before .with-rx-buf .ensures,
       c .before .before .before .before .before .before .before .with-flags .ensures,
     )
     (by-flag (x .d .flags .transmitting) (λ e. rw (flag-is (x .a) (x .d) sending e, onward-send)) (λ e. rw (flag-is (x .a) (x .d) sending e, onward-ready)))

@@ -9,10 +9,12 @@ returns : tie.Need-returns
 unfolding frameReadInto pick
 returns c =
     rw (
-      rw (c .before .before .before .before .before .is-idle .ensures) at (c .before .before .before .if1 .taken),
+      rw (c .before .before .before .before .before .before .before .is-idle .ensures) at (c .before .before .before .before .before .if1 .taken),
       c .begin .ensures,
       c .before .transfer-of .ensures,
       c .before .before .frame-read-command .ensures,
+      c .before .before .before .with-rx-buf .ensures,
+      c .before .before .before .before .with-under .ensures,
     )
 
 returns-2 : tie.Need-returns-2
@@ -23,7 +25,13 @@ pub frame-read-into-spec : {M : Type 1} → statement M
 frame-read-into-spec =
     tie.close
     (tie.spec
-    (λ c κs. search needs) (λ c. search needs) (λ c κs. search needs) (λ c κs. search needs) (λ c κs. search needs)
+    (λ c κs. search needs)
+    (λ c. search needs)
+    (λ c κs. search needs)
+    (λ c κs. search needs)
+    (λ c κs. search needs)
+    (λ c κs. search needs)
+    (λ c κs. search needs)
     returns
     (λ c κs. search needs)
     returns-2)

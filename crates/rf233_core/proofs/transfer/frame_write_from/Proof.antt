@@ -9,10 +9,12 @@ returns : tie.Need-returns
 unfolding frameWriteFrom pick
 returns c =
     rw (
-      rw (c .before .before .before .before .before .is-idle .ensures) at (c .before .before .before .if1 .taken),
+      rw (c .before .before .before .before .before .before .before .is-idle .ensures) at (c .before .before .before .before .before .if1 .taken),
       c .begin .ensures,
       c .before .transfer-of .ensures,
       c .before .before .frame-write-command .ensures,
+      c .before .before .before .with-tx-buf .ensures,
+      c .before .before .before .before .with-under .ensures,
     )
 
 returns-2 : tie.Need-returns-2
@@ -23,7 +25,13 @@ pub frame-write-from-spec : {M : Type 1} → statement M
 frame-write-from-spec =
     tie.close
     (tie.spec
-    (λ c κs. search needs) (λ c κs. search needs) (λ c. search needs) (λ c. search needs) (λ c κs. search needs)
+    (λ c κs. search needs)
+    (λ c κs. search needs)
+    (λ c κs. search needs)
+    (λ c κs. search needs)
+    (λ c. search needs)
+    (λ c. search needs)
+    (λ c κs. search needs)
     (λ c κs. search needs)
     returns
     (λ c κs. search needs)

@@ -21,7 +21,7 @@ returns c =
       c .before .before .send-done .ensures,
       c .before .before .before .before .state-transition-read .ensures,
       c .before .before .before .before .before .with-buffers .ensures,
-      c .before .before .before .before .before .before .without-tx .ensures,
+      c .before .before .before .before .before .before .with-tx-buf .ensures,
       c .before .before .before .before .before .before .before .with-flags .ensures,
     )
 
@@ -38,7 +38,7 @@ returns-2 c =
       c .before .before .buffer-in .ensures,
       c .before .before .before .before .state-transition-read .ensures,
       c .before .before .before .before .before .with-buffers .ensures,
-      c .before .before .before .before .before .before .without-tx .ensures,
+      c .before .before .before .before .before .before .with-tx-buf .ensures,
       c .before .before .before .before .before .before .before .with-flags .ensures,
     )
 
