@@ -53,11 +53,6 @@ twiceBelow r (suc n) = twiceBelow r n || ltb 1 (countOf r n)
 abbrev pub recordedTwice : Buffers → Bool
 recordedTwice r = twiceBelow r 19
 
--- the buffer in the place, of 0 to 18, is recorded twice
-abbrev pub slotTwice : Buffers → Slot → Bool
-slotTwice r Empty = false
-slotTwice r (Held c l) = ltb c 19 && ltb 1 (countOf r c)
-
 -- clause: an own buffer recorded in none
 abbrev pub ownNowhere : Buffers → Bool
 ownNowhere r = not (recordHas r 16) || (not (recordHas r 17) || not (recordHas r 18))
@@ -76,6 +71,24 @@ underSlot (FrameWrite c l) = Held c l
 
 abbrev pub clientAbove : Buffers → Bool
 clientAbove r = slotAbove (r .«tx_buf») || (slotAbove (r .«rx_buf») || slotAbove (underSlot (r .under)))
+
+-- the two places name the same buffer
+abbrev pub sameBuffer : Slot → Slot → Bool
+sameBuffer Empty y = false
+sameBuffer (Held c l) y = slotHas y c
+
+-- two of the three client's places name the same buffer
+abbrev pub clientTwice : Buffers → Bool
+clientTwice r =
+    let going = underSlot (r .under) in
+    sameBuffer (r .«tx_buf») (r .«rx_buf») || (sameBuffer (r .«tx_buf») going || sameBuffer (r .«rx_buf») going)
+
+-- an own buffer in its own place while the transfer has it, or out of it while none has it
+abbrev pub ownWrong : Under → Buffers → Bool
+ownWrong Idle r = not (r .«spi_tx») || (not (r .«spi_rx») || not (r .«spi_buf»))
+ownWrong Register r = r .«spi_tx» || (r .«spi_rx» || not (r .«spi_buf»))
+ownWrong (FrameRead c l) r = r .«spi_buf» || (not (r .«spi_tx») || not (r .«spi_rx»))
+ownWrong (FrameWrite c l) r = r .«spi_buf» || (not (r .«spi_tx») || not (r .«spi_rx»))
 
 -- the transmit buffer, held or under way, and the receive buffer likewise
 abbrev pub sending : Under → Slot

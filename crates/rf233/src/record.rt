@@ -7,9 +7,8 @@ use rf233_core::interrupt::is_held;
 use rf233_core::state::state_number;
 ghost use mathlib.Core.Path.{_≡_};
 ghost use Prim.Native.Nat.{_≤_};
-ghost use lib.Dec.{ltb};
 ghost use Rattle.rf233_core.specs.State.{stateFrame};
-ghost use Rattle.rf233.specs.Record.{slotHas, underHas, ownHas, one, countOf, recordHas, recordedTwice, slotTwice, ownNowhere, slotAbove, underSlot, clientAbove, sending, receiving, txLengthBad, rxLengthBad, lengthBad, heldBesides, frameNo, frameUnfit, bufferMissing, described};
+ghost use Rattle.rf233.specs.Record.{slotHas, underHas, ownHas, one, countOf, recordHas, slotAbove, underSlot, clientAbove, sameBuffer, clientTwice, ownWrong, sending, receiving, txLengthBad, rxLengthBad, lengthBad, heldBesides, frameNo, frameUnfit, bufferMissing, described};
 
 // The place has the buffer.
 pub(crate) fn slot_has(slot: Slot, buffer: u8) -> bool
@@ -66,45 +65,6 @@ pub fn record_has(b: Buffers, buffer: u8) -> bool
     ensures { λ r. ⌜ r ≡ recordHas b buffer ⌝ }
 {
     0 < count_of(b, buffer)
-}
-
-// The buffer is recorded twice.
-fn twice_at(b: Buffers, buffer: u8) -> bool
-    ensures { λ r. ⌜ r ≡ ltb 1 (countOf b buffer) ⌝ }
-{
-    1 < count_of(b, buffer)
-}
-
-// The buffer in the place is recorded twice.
-fn slot_twice(b: Buffers, slot: Slot) -> bool
-    ensures { λ r. ⌜ r ≡ slotTwice b slot ⌝ }
-{
-    match slot {
-        Slot::Empty => false,
-        Slot::Held(buffer, _) => (buffer < 19) & twice_at(b, buffer),
-    }
-}
-
-// Clause: a buffer of 0 to 18 recorded in two places. One that is recorded at all is an own one or stands in a client's place.
-fn recorded_twice(b: Buffers) -> bool
-    ensures { λ r. ⌜ r ≡ recordedTwice b ⌝ }
-{
-    let tx_buf = b.tx_buf;
-    let rx_buf = b.rx_buf;
-    let under = b.under;
-    let own = twice_at(b, 16) | (twice_at(b, 17) | twice_at(b, 18));
-    let client = slot_twice(b, tx_buf) | (slot_twice(b, rx_buf) | slot_twice(b, under_slot(under)));
-    own | client
-}
-
-// Clause: an own buffer recorded in none.
-fn own_nowhere(b: Buffers) -> bool
-    ensures { λ r. ⌜ r ≡ ownNowhere b ⌝ }
-{
-    let tx = record_has(b, 16);
-    let rx = record_has(b, 17);
-    let buf = record_has(b, 18);
-    !tx | (!rx | !buf)
 }
 
 // The client's side of a frame transfer, as a place.
@@ -164,6 +124,43 @@ fn client_above(b: Buffers) -> bool
     let rx = slot_above(rx_buf);
     let going = slot_above(under_slot(under));
     tx | (rx | going)
+}
+
+// The two places name the same buffer.
+fn same_buffer(x: Slot, y: Slot) -> bool
+    ensures { λ r. ⌜ r ≡ sameBuffer x y ⌝ }
+{
+    match x {
+        Slot::Empty => false,
+        Slot::Held(c, _) => slot_has(y, c),
+    }
+}
+
+// Two of the client's places name the same buffer.
+fn client_twice(b: Buffers) -> bool
+    ensures { λ r. ⌜ r ≡ clientTwice b ⌝ }
+{
+    let tx_buf = b.tx_buf;
+    let rx_buf = b.rx_buf;
+    let under = b.under;
+    let going = under_slot(under);
+    let held = same_buffer(tx_buf, rx_buf);
+    let sent = same_buffer(tx_buf, going);
+    let received = same_buffer(rx_buf, going);
+    held | (sent | received)
+}
+
+// An own buffer in its own place while the transfer has it, or out of it while none has it.
+fn own_wrong(b: Buffers) -> bool
+    ensures { λ r. ⌜ r ≡ ownWrong (b .under) b ⌝ }
+{
+    let under = b.under;
+    match under {
+        Under::Idle => !b.spi_tx | (!b.spi_rx | !b.spi_buf),
+        Under::Register => b.spi_tx | (b.spi_rx | !b.spi_buf),
+        Under::FrameRead(_, _) => b.spi_buf | (!b.spi_tx | !b.spi_rx),
+        Under::FrameWrite(_, _) => b.spi_buf | (!b.spi_tx | !b.spi_rx),
+    }
 }
 
 // A transmit buffer, held or under way, with a length or an n out of bounds.
@@ -261,7 +258,8 @@ fn buffer_missing(b: Buffers, n: u8) -> bool
     (sends & !tx) | (receives & !rx)
 }
 
-// Whether refusal 12 describes the driver value.
+// Whether refusal 12 describes the driver value. No place is counted: once no client's place names an own buffer, a buffer is recorded twice
+// or nowhere exactly if two client's places name the same one or an own one is not where the transfer under way has it be.
 pub fn is_described(d: Driver) -> bool
     ensures { λ r. ⌜ r ≡ described d ⌝ }
 {
@@ -270,12 +268,12 @@ pub fn is_described(d: Driver) -> bool
     let flags = d.flags;
     let s = d.state;
     let n = state_number(s);
-    let twice = recorded_twice(b);
-    let nowhere = own_nowhere(b);
     let above = client_above(b);
+    let twice = client_twice(b);
+    let own = own_wrong(b);
     let lengths = length_bad(b);
     let besides = held_besides(b);
     let unfit = frame_unfit(under, n, flags.interrupt_handling);
     let missing = buffer_missing(b, n);
-    twice | (nowhere | (above | (lengths | (besides | (unfit | missing)))))
+    above | (twice | (own | (lengths | (besides | (unfit | missing)))))
 }
