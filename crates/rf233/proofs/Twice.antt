@@ -11,7 +11,7 @@ use Rattle.rf233_core.proofs.Conditions.{by-flag}
 use Rattle.rf233_core.proofs.Logic.{is-true}
 use Rattle.rf233.proofs.OwnBuffers.{only-16, only-17, only-18, slot-below}
 use Rattle.rf233.proofs.Sound.{none-left, none-right}
-use Rattle.rf233.specs.Record.{slotHas, underHas, ownHas, slotAbove, underSlot, one, countOf, recordHas, twiceBelow, recordedTwice, ownNowhere, clientAbove, sameBuffer, clientTwice, ownWrong}
+use Rattle.rf233.specs.Record.{slotHas, underHas, ownHas, slotAbove, underSlot, one, countOf, recordHas, twiceBelow, recordedTwice, ownNowhere, clientAbove, sameBuffer, ownWrong}
 use Rattle.rf233_core.specs.declared.driver.Buffers.{Buffers}
 use Rattle.rf233_core.specs.declared.driver.Slot.{Slot}
 use Rattle.rf233_core.specs.declared.driver.Slot.the-variants.{Empty, Held}
@@ -59,6 +59,12 @@ own-none true true = refl
 own-none true false = refl
 own-none false true = refl
 own-none false false = refl
+
+-- two of the three client's places name the same buffer
+abbrev pub clientTwice : Buffers → Bool
+clientTwice r =
+    let going = underSlot (r .under) in
+    sameBuffer (r .«tx_buf») (r .«rx_buf») || (sameBuffer (r .«tx_buf») going || sameBuffer (r .«rx_buf») going)
 
 module _ (r : Buffers) where
   abbrev twice : ℕ → Bool
