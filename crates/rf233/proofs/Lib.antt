@@ -8,3 +8,4 @@ pub mod OwnBuffers
 pub mod StarredSteps
 pub mod StarredOccur
 pub mod Twice
+pub mod Described

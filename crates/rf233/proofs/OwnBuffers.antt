@@ -21,15 +21,15 @@ use Rattle.rf233_core.specs.declared.driver.Under.the-variants.{Register, Frame
 use Rattle.rf233.proofs.Sound.{none-left, none-right, both-left}
 
 -- an own buffer's place, from what the record has
-only-16 : (t r s : Bool) → (t && true) || ((r && false) || (s && false)) ≡ t
+pub only-16 : (t r s : Bool) → (t && true) || ((r && false) || (s && false)) ≡ t
 only-16 true r s = refl
 only-16 false r s = simp and-false
 
-only-17 : (t r s : Bool) → (t && false) || ((r && true) || (s && false)) ≡ r
+pub only-17 : (t r s : Bool) → (t && false) || ((r && true) || (s && false)) ≡ r
 only-17 t true s = simp and-false
 only-17 t false s = simp and-false
 
-only-18 : (t r s : Bool) → (t && false) || ((r && false) || (s && true)) ≡ s
+pub only-18 : (t r s : Bool) → (t && false) || ((r && false) || (s && true)) ≡ s
 only-18 t r true = simp and-false
 only-18 t r false = simp and-false
 
@@ -42,7 +42,7 @@ one-some true h = refl
 one-some false h = absurd (omega arith)
 
 -- a client's place has no own buffer
-slot-below : (x : Slot) (k : ℕ) → 15 < k → slotAbove x ≡ false → slotHas x k ≡ false
+pub slot-below : (x : Slot) (k : ℕ) → 15 < k → slotAbove x ≡ false → slotHas x k ≡ false
 slot-below Empty k h e = refl
 slot-below (Held c l) k h e = ne-eqb c k (λ q. omega (arith, ltb-false 15 c e))
 

@@ -1,15 +1,17 @@
--- A buffer of 0 to 18 that is recorded twice is an own one or stands in a client's place: `twice-named`. Assumes nothing.
-use Prim.Native.Nat.{ℕ, zero, suc, _+_, _≤_, _<_}
+-- What is recorded twice or nowhere, found without counting (`uncounted`): where no client's place names an own buffer, a client's buffer
+-- is recorded twice exactly if two client's places name it, and an own buffer once exactly if it is in its own place while no transfer has
+-- it. Assumes nothing.
+use Prim.Native.Nat.{ℕ, zero, suc, _+_, _<_}
 use mathlib.Core.Path.{_≡_, refl, sym, subst}
-use mathlib.Core.Bool.{Bool, true, false, _&&_, _||_, and-false}
-use mathlib.Core.Logic.{⊎-elim}
-use native.Mathlib.Nat.{eq-or-lt-of-le}
+use mathlib.Core.Bool.{Bool, true, false, not, _&&_, _||_, and-true, and-false, or-true, or-false, or-assoc}
 use native.Mathlib.Omega.{arith}
-use lib.Dec.{T, eqb, ltb, ltb→lt}
-use borrow.Author.Tests.{eqb-true, eqb-false, lt-ltb}
+use lib.Dec.{T, eqb, ltb, eqb-refl, lit<, lt→ltb}
+use borrow.Author.Tests.{eqb-true, eqb-false, ne-eqb, ltb-false}
 use Rattle.rf233_core.proofs.Conditions.{by-flag}
-use Rattle.rf233_core.proofs.Logic.{left, right, pair}
-use Rattle.rf233.specs.Record.{slotHas, underHas, ownHas, underSlot, one, countOf, twiceBelow, recordedTwice, slotTwice}
+use Rattle.rf233_core.proofs.Logic.{is-true}
+use Rattle.rf233.proofs.OwnBuffers.{only-16, only-17, only-18, slot-below}
+use Rattle.rf233.proofs.Sound.{none-left, none-right}
+use Rattle.rf233.specs.Record.{slotHas, underHas, ownHas, slotAbove, underSlot, one, countOf, recordHas, twiceBelow, recordedTwice, ownNowhere, clientAbove, sameBuffer, ownWrong}
 use Rattle.rf233_core.specs.declared.driver.Buffers.{Buffers}
 use Rattle.rf233_core.specs.declared.driver.Slot.{Slot}
 use Rattle.rf233_core.specs.declared.driver.Slot.the-variants.{Empty, Held}
@@ -35,6 +37,35 @@ or-case : {A : Type 0} (a b : Bool) → T (a || b) → (T a → A) → (T b → 
 or-case true b t f g = f tt
 or-case false b t f g = g t
 
+-- two places that have a buffer name the same one, and the other way round
+same : (x y : Slot) (k : ℕ) → slotHas x k ≡ true → slotHas y k ≡ true → T (sameBuffer x y)
+same Empty y k p q = absurd (subst T (sym p) tt)
+same (Held c l) y k p q = rw (eqb-true c k p, q) tt
+
+same-one : {A : Type 0} (x y : Slot) → slotAbove x ≡ false → T (sameBuffer x y)
+    → ((k : ℕ) → k < 16 → slotHas x k ≡ true → slotHas y k ≡ true → A) → A
+same-one Empty y e t f = absurd t
+same-one (Held c l) y e t f = f c (omega (arith, ltb-false 15 c e)) (is-true (eqb c c) (eqb-refl c)) (is-true (slotHas y c) t)
+
+-- an own buffer is counted in its own place and under way
+own-twice : (a g : Bool) → ltb 1 (one a + 0 + 0 + one g) ≡ a && g
+own-twice true true = refl
+own-twice true false = refl
+own-twice false true = refl
+own-twice false false = refl
+
+own-none : (a g : Bool) → not (ltb 0 (one a + 0 + 0 + one g)) ≡ not (a || g)
+own-none true true = refl
+own-none true false = refl
+own-none false true = refl
+own-none false false = refl
+
+-- two of the three client's places name the same buffer
+abbrev pub clientTwice : Buffers → Bool
+clientTwice r =
+    let going = underSlot (r .under) in
+    sameBuffer (r .«tx_buf») (r .«rx_buf») || (sameBuffer (r .«tx_buf») going || sameBuffer (r .«rx_buf») going)
+
 module _ (r : Buffers) where
   abbrev twice : ℕ → Bool
   twice k = ltb 1 (countOf r k)
@@ -51,60 +82,98 @@ module _ (r : Buffers) where
       by-flag (eqb k n) (λ e. or-right (twiceBelow r n) (twice n) (subst (λ z. T (twice z)) (eqb-true k n e) t))
       (λ e. or-left (twiceBelow r n) (twice n) (is-below n k (omega (arith, eqb-false k n e)) t))
 
-  abbrev own : Bool
-  own = twice 16 || (twice 17 || twice 18)
+  abbrev tx : Slot
+  tx = r .«tx_buf»
 
-  abbrev client : Bool
-  client = slotTwice r (r .«tx_buf») || (slotTwice r (r .«rx_buf») || slotTwice r (underSlot (r .under)))
+  abbrev rx : Slot
+  rx = r .«rx_buf»
 
-  in-slot : (s : Slot) (k : ℕ) → slotHas s k ≡ true → k < 19 → T (twice k) → T (slotTwice r s)
-  in-slot Empty k e h t = absurd (subst T (sym e) tt)
-  in-slot (Held c l) k e h t =
-      subst (λ z. T (ltb z 19 && twice z)) (sym (eqb-true c k e)) (pair (ltb k 19) (twice k) (subst T (sym (lt-ltb k 19 h)) tt) t)
+  abbrev going : Slot
+  going = underSlot (r .under)
 
-  from-slot : (s : Slot) → T (slotTwice r s) → T (recordedTwice r)
-  from-slot Empty t = absurd t
-  from-slot (Held c l) t = is-below 19 c (ltb→lt c 19 (left (ltb c 19) (twice c) t)) (right (ltb c 19) (twice c) t)
+  -- of a client's buffer the transfer under way has what its client's place has
+  under-client : (u : Under) (k : ℕ) → k < 16 → underHas u k ≡ slotHas (underSlot u) k
+  under-client Idle k h = refl
+  under-client Register k h = rw (ne-eqb 16 k (λ e. omega arith), ne-eqb 17 k (λ e. omega arith))
+  under-client (FrameRead c l) k h = rw (ne-eqb 18 k (λ e. omega arith))
+  under-client (FrameWrite c l) k h = rw (ne-eqb 18 k (λ e. omega arith))
 
-  -- past the own buffers' numbers, the transfer under way has a client's buffer alone
-  under-client : (u : Under) (k : ℕ) → eqb 16 k ≡ false → eqb 17 k ≡ false → eqb 18 k ≡ false → underHas u k ≡ slotHas (underSlot u) k
-  under-client Idle k p q s = refl
-  under-client Register k p q s = rw (p, q)
-  under-client (FrameRead c l) k p q s = rw s
-  under-client (FrameWrite c l) k p q s = rw s
-
-  none-twice : {A : Type 0} (k : ℕ) → eqb 16 k ≡ false → eqb 17 k ≡ false → eqb 18 k ≡ false → slotHas (r .«tx_buf») k ≡ false
-      → slotHas (r .«rx_buf») k ≡ false → slotHas (underSlot (r .under)) k ≡ false → T (twice k) → A
+  count-client : (k : ℕ) → k < 16 → countOf r k ≡ 0 + one (slotHas tx k) + one (slotHas rx k) + one (slotHas going k)
   unfolding countOf
-  none-twice k p q s x y z t =
-      absurd (rw (p, q, s, and-false (r .«spi_tx»), and-false (r .«spi_rx»), and-false (r .«spi_buf»), x, y, under-client (r .under) k p q s, z) at t)
+  count-client k h =
+      rw (ne-eqb 16 k (λ e. omega arith), ne-eqb 17 k (λ e. omega arith), ne-eqb 18 k (λ e. omega arith), and-false (r .«spi_tx»), and-false (r .«spi_rx»), and-false (r .«spi_buf»), under-client (r .under) k h)
 
-  is-named : (k : ℕ) → k < 19 → T (twice k) → T (own || client)
-  is-named k h t =
-      by-flag (eqb 16 k) (λ p. or-left own client (or-left (twice 16) _ (here 16 p)))
-      (λ p. by-flag (eqb 17 k) (λ q. or-left own client (or-right (twice 16) _ (or-left (twice 17) _ (here 17 q))))
-      (λ q. by-flag (eqb 18 k) (λ s. or-left own client (or-right (twice 16) _ (or-right (twice 17) _ (here 18 s))))
-      (λ s. or-right own client (in-client p q s))))
-    where
-      here : (n : ℕ) → eqb n k ≡ true → T (twice n)
-      here n e = subst (λ z. T (twice z)) (sym (eqb-true n k e)) t
+  -- a client's buffer that is recorded twice stands in two of the places
+  in-two : (k : ℕ) → T (ltb 1 (0 + one (slotHas tx k) + one (slotHas rx k) + one (slotHas going k))) → T (clientTwice r)
+  in-two k t =
+      by-flag (slotHas tx k)
+      (λ x. by-flag (slotHas rx k) (λ y. or-left (sameBuffer tx rx) _ (same tx rx k x y))
+      (λ y. by-flag (slotHas going k) (λ z. or-right (sameBuffer tx rx) _ (or-left (sameBuffer tx going) _ (same tx going k x z)))
+      (λ z. absurd (rw (x, y, z) at t))))
+      (λ x. by-flag (slotHas rx k)
+      (λ y. by-flag (slotHas going k) (λ z. or-right (sameBuffer tx rx) _ (or-right (sameBuffer tx going) _ (same rx going k y z)))
+      (λ z. absurd (rw (x, y, z) at t)))
+      (λ y. by-flag (slotHas going k) (λ z. absurd (rw (x, y, z) at t)) (λ z. absurd (rw (x, y, z) at t))))
 
-      in-client : eqb 16 k ≡ false → eqb 17 k ≡ false → eqb 18 k ≡ false → T client
-      in-client p q s =
-          by-flag (slotHas (r .«tx_buf») k) (λ x. or-left (slotTwice r (r .«tx_buf»)) _ (in-slot (r .«tx_buf») k x h t))
-          (λ x. by-flag (slotHas (r .«rx_buf») k)
-          (λ y. or-right (slotTwice r (r .«tx_buf»)) _ (or-left (slotTwice r (r .«rx_buf»)) _ (in-slot (r .«rx_buf») k y h t)))
-          (λ y. by-flag (slotHas (underSlot (r .under)) k)
-          (λ z. or-right (slotTwice r (r .«tx_buf»)) _ (or-right (slotTwice r (r .«rx_buf»)) _ (in-slot (underSlot (r .under)) k z h t)))
-          (λ z. none-twice k p q s x y z t)))
+  -- no client's place names an own buffer
+  module _ (above : clientAbove r ≡ false) where
+    tx-low : slotAbove tx ≡ false
+    tx-low = none-left (slotAbove tx) _ above
 
-  from-named : T (own || client) → T (recordedTwice r)
-  from-named t =
-      or-case own client t
-      (λ o. or-case (twice 16) (twice 17 || twice 18) o (is-below 19 16 (omega arith))
-      (λ o. or-case (twice 17) (twice 18) o (is-below 19 17 (omega arith)) (is-below 19 18 (omega arith))))
-      (λ c. or-case (slotTwice r (r .«tx_buf»)) _ c (from-slot (r .«tx_buf»))
-      (λ c. or-case (slotTwice r (r .«rx_buf»)) _ c (from-slot (r .«rx_buf»)) (from-slot (underSlot (r .under)))))
+    rx-low : slotAbove rx ≡ false
+    rx-low = none-left (slotAbove rx) _ (none-right (slotAbove tx) _ above)
 
-  pub twice-named : own || client ≡ recordedTwice r
-  twice-named = both-ways (own || client) (recordedTwice r) from-named (λ t. found 19 t is-named)
+    going-low : slotAbove going ≡ false
+    going-low = none-right (slotAbove rx) _ (none-right (slotAbove tx) _ above)
+
+    from-two : T (clientTwice r) → T (twiceBelow r 16)
+    from-two t =
+        or-case (sameBuffer tx rx) _ t
+        (λ t. same-one tx rx tx-low t (λ k h x y. is-below 16 k h (lt→ltb 1 (countOf r k) (omega (arith, rw (x, y) at (count-client k h))))))
+        (λ t. or-case (sameBuffer tx going) _ t
+        (λ t. same-one tx going tx-low t (λ k h x z. is-below 16 k h (lt→ltb 1 (countOf r k) (omega (arith, rw (x, z) at (count-client k h))))))
+        (λ t. same-one rx going rx-low t (λ k h y z. is-below 16 k h (lt→ltb 1 (countOf r k) (omega (arith, rw (y, z) at (count-client k h)))))))
+
+    clients : twiceBelow r 16 ≡ clientTwice r
+    clients = both-ways (twiceBelow r 16) (clientTwice r) (λ t. found 16 t (λ k h x. in-two k (rw (count-client k h) at x))) from-two
+
+    count-own : (k : ℕ) → 15 < k → countOf r k ≡ one (ownHas r k) + 0 + 0 + one (underHas (r .under) k)
+    unfolding countOf
+    count-own k h = rw (slot-below tx k h tx-low, slot-below rx k h rx-low)
+
+    twice-own : (k : ℕ) (a : Bool) → 15 < k → ownHas r k ≡ a → twice k ≡ a && underHas (r .under) k
+    twice-own k a h e = rw (count-own k h, e, own-twice)
+
+    nowhere-own : (k : ℕ) (a : Bool) → 15 < k → ownHas r k ≡ a → not (recordHas r k) ≡ not (a || underHas (r .under) k)
+    nowhere-own k a h e = rw (count-own k h, e, own-none)
+
+  -- each own buffer once, by the transfer under way
+  owns : (u : Under) → slotAbove (underSlot u) ≡ false → (m rest : Bool)
+      → (((m || (r .«spi_tx» && underHas u 16)) || (r .«spi_rx» && underHas u 17)) || (r .«spi_buf» && underHas u 18))
+      || ((not (r .«spi_tx» || underHas u 16) || (not (r .«spi_rx» || underHas u 17) || not (r .«spi_buf» || underHas u 18))) || rest)
+      ≡ m || (ownWrong u r || rest)
+  owns Idle low m rest = simp (and-false, or-false, or-assoc)
+  owns Register low m rest = simp (and-true, and-false, or-true, or-false, or-assoc)
+  owns (FrameRead c l) low m rest =
+      rw (slot-below (Held c l) 16 (lit< tt) low, slot-below (Held c l) 17 (lit< tt) low) (simp (and-true, and-false, or-true, or-false, or-assoc))
+  owns (FrameWrite c l) low m rest =
+      rw (slot-below (Held c l) 16 (lit< tt) low, slot-below (Held c l) 17 (lit< tt) low) (simp (and-true, and-false, or-true, or-false, or-assoc))
+
+  pub uncounted : (rest : Bool) → recordedTwice r || (ownNowhere r || (clientAbove r || rest)) ≡ clientAbove r || (clientTwice r || (ownWrong (r .under) r || rest))
+  uncounted rest =
+      by-flag (clientAbove r) (λ e. rw e (simp or-true))
+      (λ e.
+      let t = only-16 (r .«spi_tx») (r .«spi_rx») (r .«spi_buf») in
+      let x = only-17 (r .«spi_tx») (r .«spi_rx») (r .«spi_buf») in
+      let s = only-18 (r .«spi_tx») (r .«spi_rx») (r .«spi_buf») in
+      rw (
+        e,
+        clients e,
+        twice-own e 16 _ (lit< tt) t,
+        twice-own e 17 _ (lit< tt) x,
+        twice-own e 18 _ (lit< tt) s,
+        nowhere-own e 16 _ (lit< tt) t,
+        nowhere-own e 17 _ (lit< tt) x,
+        nowhere-own e 18 _ (lit< tt) s,
+      )
+      (owns (r .under) (going-low e) (clientTwice r) rest))

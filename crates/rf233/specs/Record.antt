@@ -53,11 +53,6 @@ twiceBelow r (suc n) = twiceBelow r n || ltb 1 (countOf r n)
 abbrev pub recordedTwice : Buffers → Bool
 recordedTwice r = twiceBelow r 19
 
--- the buffer in the place, of 0 to 18, is recorded twice
-abbrev pub slotTwice : Buffers → Slot → Bool
-slotTwice r Empty = false
-slotTwice r (Held c l) = ltb c 19 && ltb 1 (countOf r c)
-
 -- clause: an own buffer recorded in none
 abbrev pub ownNowhere : Buffers → Bool
 ownNowhere r = not (recordHas r 16) || (not (recordHas r 17) || not (recordHas r 18))
@@ -143,3 +138,26 @@ described d =
 -- refusal 12: the pool is not 3,040 bytes long, or the driver value is described
 abbrev pub poolFault : Driver → List ℕ → Bool
 poolFault d p = not (eqb (length p) poolLength) || described d
+
+-- The parts in which `is_described` asks this, place by place: `described` is made of them (`regrouped` in proofs/Described.antt).
+-- the two places name the same buffer
+abbrev pub sameBuffer : Slot → Slot → Bool
+sameBuffer Empty y = false
+sameBuffer (Held c l) y = slotHas y c
+
+-- an own buffer in its own place while the transfer has it, or out of it while it does not
+abbrev pub ownWrong : Under → Buffers → Bool
+ownWrong Idle r = not (r .«spi_tx») || (not (r .«spi_rx») || not (r .«spi_buf»))
+ownWrong Register r = r .«spi_tx» || (r .«spi_rx» || not (r .«spi_buf»))
+ownWrong (FrameRead c l) r = r .«spi_buf» || (not (r .«spi_tx») || not (r .«spi_rx»))
+ownWrong (FrameWrite c l) r = r .«spi_buf» || (not (r .«spi_tx») || not (r .«spi_rx»))
+
+-- of a frame transfer, the own buffers and the state apart: interrupt handling set, a buffer of its kind held besides, its client's buffer not
+-- a client's, with a length out of bounds, or the one held of the other kind
+abbrev pub frameBad : Under → Slot → Slot → ℕ → Bool → Bool
+frameBad Idle tx rx n handling = false
+frameBad Register tx rx n handling = false
+frameBad (FrameRead c l) tx rx n handling =
+    handling || (has rx || ((slotAbove (Held c l) || rxLengthBad (Held c l)) || sameBuffer tx (Held c l)))
+frameBad (FrameWrite c l) tx rx n handling =
+    handling || (has tx || ((slotAbove (Held c l) || txLengthBad (Held c l) n) || sameBuffer rx (Held c l)))

@@ -1,4 +1,4 @@
-// The driver's record of its buffers: where a buffer is, and what refusal 12 describes, clause by clause.
+// The driver's record of its buffers: where a buffer is, and what refusal 12 describes, asked place by place.
 use rf233_core::driver::Buffers;
 use rf233_core::driver::Driver;
 use rf233_core::driver::Slot;
@@ -6,10 +6,11 @@ use rf233_core::driver::Under;
 use rf233_core::interrupt::is_held;
 use rf233_core::state::state_number;
 ghost use mathlib.Core.Path.{_≡_};
+ghost use mathlib.Core.Bool.{not, _||_};
 ghost use Prim.Native.Nat.{_≤_};
-ghost use lib.Dec.{ltb};
+ghost use lib.Dec.{eqb};
 ghost use Rattle.rf233_core.specs.State.{stateFrame};
-ghost use Rattle.rf233.specs.Record.{slotHas, underHas, ownHas, one, countOf, recordHas, recordedTwice, slotTwice, ownNowhere, slotAbove, underSlot, clientAbove, sending, receiving, txLengthBad, rxLengthBad, lengthBad, heldBesides, frameNo, frameUnfit, bufferMissing, described};
+ghost use Rattle.rf233.specs.Record.{slotHas, underHas, ownHas, one, countOf, recordHas, sending, receiving, slotAbove, sameBuffer, ownWrong, txLengthBad, rxLengthBad, frameNo, frameBad, bufferMissing, described};
 
 // The place has the buffer.
 pub(crate) fn slot_has(slot: Slot, buffer: u8) -> bool
@@ -68,57 +69,6 @@ pub fn record_has(b: Buffers, buffer: u8) -> bool
     0 < count_of(b, buffer)
 }
 
-// The buffer is recorded twice.
-fn twice_at(b: Buffers, buffer: u8) -> bool
-    ensures { λ r. ⌜ r ≡ ltb 1 (countOf b buffer) ⌝ }
-{
-    1 < count_of(b, buffer)
-}
-
-// The buffer in the place is recorded twice.
-fn slot_twice(b: Buffers, slot: Slot) -> bool
-    ensures { λ r. ⌜ r ≡ slotTwice b slot ⌝ }
-{
-    match slot {
-        Slot::Empty => false,
-        Slot::Held(buffer, _) => (buffer < 19) & twice_at(b, buffer),
-    }
-}
-
-// Clause: a buffer of 0 to 18 recorded in two places. One that is recorded at all is an own one or stands in a client's place.
-fn recorded_twice(b: Buffers) -> bool
-    ensures { λ r. ⌜ r ≡ recordedTwice b ⌝ }
-{
-    let tx_buf = b.tx_buf;
-    let rx_buf = b.rx_buf;
-    let under = b.under;
-    let own = twice_at(b, 16) | (twice_at(b, 17) | twice_at(b, 18));
-    let client = slot_twice(b, tx_buf) | (slot_twice(b, rx_buf) | slot_twice(b, under_slot(under)));
-    own | client
-}
-
-// Clause: an own buffer recorded in none.
-fn own_nowhere(b: Buffers) -> bool
-    ensures { λ r. ⌜ r ≡ ownNowhere b ⌝ }
-{
-    let tx = record_has(b, 16);
-    let rx = record_has(b, 17);
-    let buf = record_has(b, 18);
-    !tx | (!rx | !buf)
-}
-
-// The client's side of a frame transfer, as a place.
-fn under_slot(under: Under) -> Slot
-    ensures { λ r. ⌜ r ≡ underSlot under ⌝ }
-{
-    match under {
-        Under::Idle => Slot::Empty,
-        Under::Register => Slot::Empty,
-        Under::FrameRead(c, l) => Slot::Held(c, l),
-        Under::FrameWrite(c, l) => Slot::Held(c, l),
-    }
-}
-
 // The transmit buffer under way, as a place.
 pub fn sending_slot(under: Under) -> Slot
     ensures { λ r. ⌜ r ≡ sending under ⌝ }
@@ -143,77 +93,63 @@ pub fn receiving_slot(under: Under) -> Slot
     }
 }
 
-// The place names a buffer that is no client's.
-fn slot_above(slot: Slot) -> bool
-    ensures { λ r. ⌜ r ≡ slotAbove slot ⌝ }
+// The two places name the same buffer.
+fn same_buffer(x: Slot, y: Slot) -> bool
+    ensures { λ r. ⌜ r ≡ sameBuffer x y ⌝ }
 {
-    match slot {
+    match x {
         Slot::Empty => false,
-        Slot::Held(c, _) => 15 < c,
+        Slot::Held(c, _) => slot_has(y, c),
     }
 }
 
-// Clause: a client's place that names a buffer above 15.
-fn client_above(b: Buffers) -> bool
-    ensures { λ r. ⌜ r ≡ clientAbove b ⌝ }
+// A transmit buffer, held or under way, that is no client's, or with a length or an n out of bounds.
+fn tx_bad(slot: Slot, n: u8) -> bool
+    ensures { λ r. ⌜ r ≡ (slotAbove slot || txLengthBad slot n) ⌝ }
+{
+    match slot {
+        Slot::Empty => false,
+        Slot::Held(c, l) => (15 < c)
+            | !(((2 <= n) & (n <= 127)) & ((n as u16 + 3 <= l as u16) & (l <= 160))),
+    }
+}
+
+// A receive buffer, held or under way, that is no client's, or with a length out of bounds.
+fn rx_bad(slot: Slot) -> bool
+    ensures { λ r. ⌜ r ≡ (slotAbove slot || rxLengthBad slot) ⌝ }
+{
+    match slot {
+        Slot::Empty => false,
+        Slot::Held(c, l) => (15 < c) | !((129 <= l) & (l <= 160)),
+    }
+}
+
+// What is wrong with the transfer under way: an own buffer is in its own place exactly while the transfer does not have it, and a frame
+// transfer's client's buffer is asked like a held one.
+fn going_bad(b: Buffers, handling: bool) -> bool
+    ensures { λ r. ⌜ r ≡ (ownWrong (b .under) b || frameBad (b .under) (b .«tx_buf») (b .«rx_buf») (b .«tx_len») handling) ⌝ }
 {
     let tx_buf = b.tx_buf;
     let rx_buf = b.rx_buf;
     let under = b.under;
-    let tx = slot_above(tx_buf);
-    let rx = slot_above(rx_buf);
-    let going = slot_above(under_slot(under));
-    tx | (rx | going)
-}
-
-// A transmit buffer, held or under way, with a length or an n out of bounds.
-fn tx_length_bad(slot: Slot, n: u8) -> bool
-    ensures { λ r. ⌜ r ≡ txLengthBad slot n ⌝ }
-{
-    match slot {
-        Slot::Empty => false,
-        Slot::Held(_, l) => !(((2 <= n) & (n <= 127)) & ((n as u16 + 3 <= l as u16) & (l <= 160))),
+    match under {
+        Under::Idle => !b.spi_tx | (!b.spi_rx | !b.spi_buf),
+        Under::Register => b.spi_tx | (b.spi_rx | !b.spi_buf),
+        Under::FrameRead(c, l) => {
+            let going = Slot::Held(c, l);
+            let held = is_held(rx_buf);
+            let bad = rx_bad(going);
+            let twice = same_buffer(tx_buf, going);
+            (b.spi_buf | (!b.spi_tx | !b.spi_rx)) | (handling | (held | (bad | twice)))
+        }
+        Under::FrameWrite(c, l) => {
+            let going = Slot::Held(c, l);
+            let held = is_held(tx_buf);
+            let bad = tx_bad(going, b.tx_len);
+            let twice = same_buffer(rx_buf, going);
+            (b.spi_buf | (!b.spi_tx | !b.spi_rx)) | (handling | (held | (bad | twice)))
+        }
     }
-}
-
-// A receive buffer, held or under way, with a length out of bounds.
-fn rx_length_bad(slot: Slot) -> bool
-    ensures { λ r. ⌜ r ≡ rxLengthBad slot ⌝ }
-{
-    match slot {
-        Slot::Empty => false,
-        Slot::Held(_, l) => !((129 <= l) & (l <= 160)),
-    }
-}
-
-// Clause: a length out of bounds.
-fn length_bad(b: Buffers) -> bool
-    ensures { λ r. ⌜ r ≡ lengthBad b ⌝ }
-{
-    let tx_buf = b.tx_buf;
-    let rx_buf = b.rx_buf;
-    let under = b.under;
-    let whole = (129 <= b.spi_buf_whole) & (b.spi_buf_whole <= 160);
-    let present = (2 <= b.spi_buf_len) & (b.spi_buf_len <= b.spi_buf_whole);
-    let tx = tx_length_bad(tx_buf, b.tx_len);
-    let tx_going = tx_length_bad(sending_slot(under), b.tx_len);
-    let rx = rx_length_bad(rx_buf);
-    let rx_going = rx_length_bad(receiving_slot(under));
-    !whole | (!present | (tx | (tx_going | (rx | rx_going))))
-}
-
-// Clause: a buffer held while another of its kind is under way.
-fn held_besides(b: Buffers) -> bool
-    ensures { λ r. ⌜ r ≡ heldBesides b ⌝ }
-{
-    let tx_buf = b.tx_buf;
-    let rx_buf = b.rx_buf;
-    let under = b.under;
-    let tx = is_held(tx_buf);
-    let rx = is_held(rx_buf);
-    let sent = is_held(sending_slot(under));
-    let received = is_held(receiving_slot(under));
-    (tx & sent) | (rx & received)
 }
 
 // No frame transfer, a frame read, a frame write.
@@ -228,54 +164,42 @@ fn frame_number(under: Under) -> u8
     }
 }
 
-// The frame transfer that a state names.
-fn state_frame(n: u8) -> u8
-    ensures { λ r. ⌜ r ≡ stateFrame n ⌝ }
-{
-    match n {
-        34 => 2,
-        63 | 65 => 1,
-        _ => 0,
-    }
-}
-
-// Clause: a frame transfer that does not fit the state, or the state without its transfer.
-fn frame_unfit(under: Under, n: u8, handling: bool) -> bool
-    ensures { λ r. ⌜ r ≡ frameUnfit under n handling ⌝ }
-{
-    let frame = frame_number(under);
-    let named = state_frame(n);
-    !(frame == named) | ((0 < frame) & handling)
-}
-
-// Clause: a state without the buffer that it takes.
-fn buffer_missing(b: Buffers, n: u8) -> bool
-    ensures { λ r. ⌜ r ≡ bufferMissing b n ⌝ }
+// A frame transfer that the state does not name, or a state without its transfer or without the buffer that it takes.
+fn state_bad(b: Buffers, n: u8) -> bool
+    ensures { λ r. ⌜ r ≡ (not (eqb (frameNo (b .under)) (stateFrame n)) || bufferMissing b n) ⌝ }
 {
     let tx_buf = b.tx_buf;
     let rx_buf = b.rx_buf;
+    let under = b.under;
     let tx = is_held(tx_buf);
     let rx = is_held(rx_buf);
-    let sends = (n == 33) | (n == 43);
-    let receives = (n == 62) | ((n == 64) | (n == 68));
-    (sends & !tx) | (receives & !rx)
+    let frame = frame_number(under);
+    match n {
+        33 | 43 => !(frame == 0) | !tx,
+        34 => !(frame == 2),
+        62 | 64 | 68 => !(frame == 0) | !rx,
+        63 | 65 => !(frame == 1),
+        _ => !(frame == 0),
+    }
 }
 
-// Whether refusal 12 describes the driver value.
+// Whether refusal 12 describes the driver value. No place is counted: where no client's place names an own buffer, a buffer is recorded twice
+// or nowhere exactly if two client's places name the same one or an own one is not where the transfer under way wants it.
 pub fn is_described(d: Driver) -> bool
     ensures { λ r. ⌜ r ≡ described d ⌝ }
 {
     let b = d.buffers;
-    let under = b.under;
+    let tx_buf = b.tx_buf;
+    let rx_buf = b.rx_buf;
     let flags = d.flags;
     let s = d.state;
     let n = state_number(s);
-    let twice = recorded_twice(b);
-    let nowhere = own_nowhere(b);
-    let above = client_above(b);
-    let lengths = length_bad(b);
-    let besides = held_besides(b);
-    let unfit = frame_unfit(under, n, flags.interrupt_handling);
-    let missing = buffer_missing(b, n);
-    twice | (nowhere | (above | (lengths | (besides | (unfit | missing)))))
+    let whole = (129 <= b.spi_buf_whole) & (b.spi_buf_whole <= 160);
+    let present = (2 <= b.spi_buf_len) & (b.spi_buf_len <= b.spi_buf_whole);
+    let tx = tx_bad(tx_buf, b.tx_len);
+    let rx = rx_bad(rx_buf);
+    let twice = same_buffer(tx_buf, rx_buf);
+    let going = going_bad(b, flags.interrupt_handling);
+    let unfit = state_bad(b, n);
+    !whole | (!present | (tx | (rx | (twice | (going | unfit)))))
 }

@@ -1,8 +1,0 @@
--- `rx_length_bad` meets its contract: the arm that holds a buffer asks its length. Assumes nothing.
-use borrow.Author.Needs.{needs}
-use Rattle.rf233.proofs.record.rx_length_bad.Statement.{statement}
-use Rattle.rf233.proofs.record.rx_length_bad.Tie as tie
-
-pub rx-length-bad-spec : {M : Type 1} → statement M
-rx-length-bad-spec =
-    tie.close (tie.spec (λ c. search needs) (λ c. search needs) (λ c. search needs) (λ c. rw (c .before .slot .given .1)))
