@@ -14,7 +14,7 @@ returns c =
 returns-2 : tie.Need-returns-2
 unfolding started pick
 returns-2 c =
-    rw (not-state (c .before .before .before .before .before .before .state-number .ensures) (c .before .before .before .before .before .if1 .left), c .step-of .ensures, c .before .no-actions .ensures, c .before .before .register-read .ensures, c .before .before .before .with-flags .ensures)
+    rw (not-state (c .before .before .before .before .state-number .ensures) (c .before .before .before .if1 .left), c .state-transition-read2 .ensures, c .before .with-flags .ensures)
 
 pub begin-start-spec : {M : Type 1} → statement M
 begin-start-spec =
@@ -23,8 +23,6 @@ begin-start-spec =
     (λ c κs. search needs)
     (λ c κs. search needs)
     returns
-    (λ c κs. search needs)
-    (λ c κs. search needs)
     (λ c κs. search needs)
     (λ c κs. search needs)
     returns-2)

@@ -35,8 +35,8 @@ unfolding receiveBufferCall pick
 returns-4 c =
     rw (rw (c .before .before .before .before .before .before .before .before .handle-bad .ensures) at (c .before .before .before .before .before .before .before .if1 .left), le-ltb (c .before .before .before .before .before .before .before .before .before .args .length) 129 (c .before .before .before .before .before .before .if2 .left), rw (c .before .before .before .before .before .rx-full .ensures) at (c .before .before .before .before .if3 .left), rw (c .before .before .record-has .ensures) at (c .before .if4 .taken), c .refuse4 .ensures)
 
-cast-t16 : tie.Need-cast-t16
-cast-t16 c =
+cast-t15 : tie.Need-cast-t15
+cast-t15 c =
     let x = c .before .before .before .before .before .before .before .before .args in
     let right = rw (c .before .before .before .before .before .before .before .handle-bad .ensures) at (c .before .before .before .before .before .before .if1 .left) in
     omega (arith, ltb-false 160 (x .length) (none-right (ltb 15 (x .buffer)) (ltb 160 (x .length)) right))
@@ -44,7 +44,7 @@ cast-t16 c =
 returns-5 : tie.Need-returns-5
 unfolding receiveBufferCall pick
 returns-5 c =
-    rw (rw (c .before .before .before .before .before .before .before .before .before .before .handle-bad .ensures) at (c .before .before .before .before .before .before .before .before .before .if1 .left), le-ltb (c .before .before .before .before .before .before .before .before .before .before .before .args .length) 129 (c .before .before .before .before .before .before .before .before .if2 .left), rw (c .before .before .before .before .before .before .before .rx-full .ensures) at (c .before .before .before .before .before .before .if3 .left), rw (c .before .before .before .before .record-has .ensures) at (c .before .before .before .if4 .left), c .stay .ensures, c .before .with-buffers .ensures, c .before .before .lend .ensures)
+    rw (rw (c .before .before .before .before .before .before .before .before .before .before .handle-bad .ensures) at (c .before .before .before .before .before .before .before .before .before .if1 .left), le-ltb (c .before .before .before .before .before .before .before .before .before .before .before .args .length) 129 (c .before .before .before .before .before .before .before .before .if2 .left), rw (c .before .before .before .before .before .before .before .rx-full .ensures) at (c .before .before .before .before .before .before .if3 .left), rw (c .before .before .before .before .record-has .ensures) at (c .before .before .before .if4 .left), c .stay .ensures, c .before .with-buffers .ensures, c .before .before .with-rx-buf .ensures)
 
 pub set-receive-buffer-spec : {M : Type 1} → statement M
 set-receive-buffer-spec =
@@ -62,7 +62,7 @@ set-receive-buffer-spec =
     (λ c κs. search needs)
     (λ c κs. search needs)
     returns-4
-    cast-t16
+    cast-t15
     (λ c κs. search needs)
     (λ c κs. search needs)
     (λ c κs. search needs)
