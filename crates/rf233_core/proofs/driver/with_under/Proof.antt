@@ -2,13 +2,12 @@
 use mathlib.Core.Path.{refl}
 use contract.Running.{givenOf, tables, tablesOf}
 use denote.Struct.Laws as LL
-use denote.Enum.Laws as EL
 use denote.Triple.Spec.{tripleOf}
 use denote.Triple.Table.{entered}
 use Rattle.rf233_core.specs.Transfer.{withUnder}
-use Rattle.rf233_core.proofs.FieldWrite.{meets}
-use Rattle.rf233_core.proofs.driver.Buffers as R
-use Rattle.rf233_core.proofs.driver.Buffers.Laws as R′
+use Rattle.rf233_core.proofs.FieldWrite.{writes}
+use Rattle.rf233_core.proofs.driver.Buffers as S
+use Rattle.rf233_core.proofs.driver.Buffers.Laws as S′
 use Rattle.rf233_core.proofs.driver.Under as E
 use Rattle.rf233_core.proofs.driver.Under.Laws as E′
 use Rattle.rf233_core.proofs.driver.with_under.Key.{name as #with-under}
@@ -19,10 +18,9 @@ use Rattle.rf233_core.proofs.driver.with_under.Code as code
 pub with-under-spec : {M : Type 1} → stated.statement M
 unfolding code.routine tablesOf
 with-under-spec 𝓤 H 𝓜 𝓖 𝓡 =
-    let W = givenOf 𝓤 H 𝓜 𝓖 in
     entered 𝓤 H (tripleOf 𝓤 H (𝓖 .A) with-under.signature (with-under.spec 𝓤 H (𝓖 .A) (𝓜 .mem) (𝓡 .run)))
     (tables 𝓤 H 𝓜 𝓡 code.env .C) (tables 𝓤 H 𝓜 𝓡 code.env .Λ) #with-under code.function (code.unfolded 𝓤 H 𝓜 𝓡)
-    (meets R.the-row E.the-row _ _ E′.mir 8 _ refl _ (EL.val E.the-type E′.the-laws) (LL.tells R.the-type R′.the-laws) (EL.tells E.the-type E′.the-laws) withUnder (λ x e. refl)
-    (λ x e r f. let o = LL.owed R.the-type R′.the-laws x _ r in LL.owes R.the-type R′.the-laws (withUnder e x) (o .0, (o .1 .0, (o .1 .1 .0, (o .1 .1 .1 .0, (o .1 .1 .1 .1 .0, (o .1 .1 .1 .1 .1 .0, (o .1 .1 .1 .1 .1 .1 .0, (o .1 .1 .1 .1 .1 .1 .1 .0, (f, o .1 .1 .1 .1 .1 .1 .1 .1 .1)))))))))) (λ x. tt) (λ e. tt)
-    𝓤 H (𝓖 .A) W (LL.makes R.the-type R′.the-plain 𝓤 H (𝓖 .A)) (λ x r. LL.lawful R.the-type R′.the-laws 𝓤 H (𝓖 .A) W .typed x _ r .0) (λ e f. EL.lawful E.the-type E′.the-laws 𝓤 H (𝓖 .A) W tt .typed e _ f .0)
-    (λ κs x f. refl) (λ κs x f. refl) (tablesOf 𝓤 H 𝓜 (tables 𝓤 H 𝓜 𝓡 code.env)))
+    (writes S.the-type S′.the-laws S′.the-plain E.the-type E′.the-laws tt 8 _ refl withUnder (λ x e. refl)
+    -- the field's own relation, and the others' as they were
+    (λ x e r f. let o = LL.owed S.the-type S′.the-laws x _ r in LL.owes S.the-type S′.the-laws (withUnder e x) (o .0, (o .1 .0, (o .1 .1 .0, (o .1 .1 .1 .0, (o .1 .1 .1 .1 .0, (o .1 .1 .1 .1 .1 .0, (o .1 .1 .1 .1 .1 .1 .0, (o .1 .1 .1 .1 .1 .1 .1 .0, (f, o .1 .1 .1 .1 .1 .1 .1 .1 .1))))))))))
+    (λ x. tt) (λ e. tt) 𝓤 H (𝓖 .A) (givenOf 𝓤 H 𝓜 𝓖) (λ κs x f. refl) (λ κs x f. refl) (tablesOf 𝓤 H 𝓜 (tables 𝓤 H 𝓜 𝓡 code.env)))
