@@ -35,12 +35,12 @@ use Rattle.rf233_core.specs.declared.driver.Under.{Under}
 use Rattle.rf233_core.specs.declared.driver.Under.the-variants.{Idle, Register, FrameRead, FrameWrite}
 use Rattle.rf233_core.specs.declared.state.InternalState.{InternalState}
 use Rattle.rf233_core.specs.declared.state.InternalState.the-variants.{«SLEEP_WAKE», «SLEEP_TRX_OFF», «CONFIG_SHORT0_SET», «TX_STATUS_PRECHECK1»}
-use Rattle.rf233.proofs.Accepted.{IsDone, either, done-handle, done-completed}
+use Rattle.rf233.proofs.Accepted.{IsDone, done-handle, done-completed}
 use Rattle.custody.proofs.Custody.{Inv, After, Fits, Lengths, register-refrains, under-idle}
 use Rattle.custody.proofs.Engine.{asks, rest-handles, ready-keeps, result-keeps}
 use Rattle.rf233_core.proofs.Fit.{Kind, kind, fit, joins, frameOf, doneNo, return-fits, rx-empty, tx-empty, fit-frame, fit-places, join-same, join-32, join-30, join-45, join-33, unsent, tx-fits, rx-fits}
 use Rattle.rf233_core.proofs.Fit.Kind.{nothing, access, reading, writing}
-use Rattle.rf233_core.proofs.Logic.{branch, left, right, pair, is-true, is-false}
+use Rattle.rf233_core.proofs.Logic.{branch, either, left, right, pair, is-true, is-false}
 use Rattle.custody.specs.Ranges.{transferFits, actionsFit, replyFits}
 use Rattle.custody.proofs.Match.{Match, ends, refuses, lends-tx, lends-rx, once, somewhere}
 use Rattle.rf233.proofs.Sound.{both-left, both-right}

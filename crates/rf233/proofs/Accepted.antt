@@ -5,6 +5,7 @@ use mathlib.Core.Bool.{Bool, true, false, not, _&&_, _||_}
 use mathlib.Core.List.{List}
 use Prim.Native.Nat.{ℕ}
 use lib.Dec.{T, eqb}
+use Rattle.rf233_core.proofs.Logic.{either}
 use Rattle.rf233_core.specs.Answer.{answerNo}
 use Rattle.rf233.specs.Calls.{Called, guarded, completing, completionCall, firedCall, arrivedOf, arrivedBad}
 use Rattle.rf233_core.specs.Choice.{pick, oneOf}
@@ -20,12 +21,6 @@ use Rattle.rf233_core.specs.declared.answer.Answer.the-variants.{Done}
 use Rattle.rf233_core.specs.declared.answer.Outcome.{Outcome}
 use Rattle.rf233_core.specs.declared.arrived.Arrived.{Arrived}
 use Rattle.rf233_core.specs.declared.driver.Driver.{Driver}
-
--- what holds of both ends of a choice holds of the choice
-pub either {ℓ κ} : {A : Type ℓ} (P : A → Type κ) (t : Bool) (x y : A) → P x → P y → P (pick t x y)
-unfolding pick
-either P true x y p q = p
-either P false x y p q = q
 
 -- the answer is done
 abbrev pub IsDone : Outcome → Type 0

@@ -8,16 +8,12 @@ use native.Mathlib.Omega.{arith}
 use lib.ListN.{length, take, drop, length-append, length-take, length-drop, length-set, take-append-drop}
 use lib.Seq.{take-length, drop-append-le, drop-drop}
 use borrow.Rule.Slice.PartMut.{midOf, putMid}
+use Rattle.rf233_core.proofs.Logic.{of-choice}
 use Rattle.rf233_core.specs.Choice.{pick}
 use Rattle.rf233.specs.Pool.{startOf, written, copied}
 use Rattle.rf233_core.specs.declared.transfer.Transfer.{Transfer}
 
--- a choice between lists has the chosen one's length, and one between equals is that
-pick-length : (v : Bool) (p q : List ℕ) → length (pick v p q) ≡ pick v (length p) (length q)
-unfolding pick
-pick-length true p q = refl
-pick-length false p q = refl
-
+-- a choice between equals is that
 pick-same : (v : Bool) (n : ℕ) → pick v n n ≡ n
 unfolding pick
 pick-same true n = refl
@@ -26,7 +22,7 @@ pick-same false n = refl
 -- a transfer's command bytes
 pub written-length : (t : Transfer) (p : List ℕ) → length (written t p) ≡ length p
 unfolding written
-written-length t p = simp (pick-length, length-set, pick-same)
+written-length t p = simp (of-choice (length {A = ℕ}), length-set, pick-same)
 
 -- arrived bytes that fit
 pub copied-length : (b : ℕ) (xs p : List ℕ) → startOf b + length xs ≤ length p → length (copied b xs p) ≡ length p

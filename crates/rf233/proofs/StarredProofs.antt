@@ -42,7 +42,8 @@ use Rattle.rf233_core.specs.declared.state.InternalState.{InternalState}
 use Rattle.rf233_core.specs.declared.state.InternalState.the-variants.{«CONFIG_SHORT0_SET»}
 use Rattle.rf233_core.specs.declared.transfer.Started.{Started}
 use Rattle.rf233_core.specs.declared.transfer.Transfer.{Transfer}
-use Rattle.rf233.proofs.Accepted.{either, arrived}
+use Rattle.rf233_core.proofs.Logic.{either}
+use Rattle.rf233.proofs.Accepted.{arrived}
 use Rattle.rf233_core.proofs.Conditions.{by-flag}
 use Rattle.rf233_core.proofs.Keys.{range}
 use Rattle.rf233.proofs.OwnBuffers.{Plain, moved, tx-home, rx-home, buf-home, frame-home, same-record, new-fit}

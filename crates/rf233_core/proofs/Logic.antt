@@ -14,6 +14,16 @@ unfolding pick
 branch P true a b y n = y tt
 branch P false a b y n = n tt
 
+-- and where the test does not matter
+pub either {ℓ κ} : {A : Type ℓ} (P : A → Type κ) (c : Bool) (a b : A) → P a → P b → P (pick c a b)
+either P c a b p q = branch P c a b (λ t. p) (λ t. q)
+
+-- a function of a choice is the choice of its values
+pub of-choice {ℓ κ} : {A : Type ℓ} {B : Type κ} (f : A → B) (c : Bool) (a b : A) → f (pick c a b) ≡ pick c (f a) (f b)
+unfolding pick
+of-choice f true a b = refl
+of-choice f false a b = refl
+
 pub left : (a b : Bool) → T (a && b) → T a
 left true b t = tt
 left false b t = t
