@@ -108,12 +108,23 @@ fn transfer(out: &mut [u8], at: usize, n: u8, c: u8) -> usize {
     at
 }
 
+// A plain completion that leads back to its state is drawn on the left: one with a condition is on the right.
+fn side(out: &mut [u8], at: usize, n: u8, c: u8) -> usize {
+    if c == 0 {
+        if next_of(n, c) == n {
+            return text(out, at, b", tailport=w, headport=w");
+        }
+    }
+    at
+}
+
 // The end of an arrow's label and what is said of it.
 fn attributes(out: &mut [u8], at: usize, n: u8, c: u8) -> usize {
     let a = transfer(out, at, n, c);
     let b = text(out, a, b"\"");
     let d = color(out, b, c);
-    text(out, d, b"];\n")
+    let e = side(out, d, n, c);
+    text(out, e, b"];\n")
 }
 
 // The name of the label that an arrow out of its cluster ends at.
