@@ -5,11 +5,12 @@ use mathlib.Core.Bool.{Bool, true, false, not, _&&_, _||_}
 use mathlib.Core.List.{List}
 use Prim.Native.Nat.{ℕ}
 use lib.Dec.{T, eqb}
+use Rattle.rf233_core.proofs.EveryStep.{every-firing, every-completion}
 use Rattle.rf233_core.proofs.Logic.{either}
 use Rattle.rf233_core.specs.Answer.{answerNo}
 use Rattle.rf233.specs.Calls.{Called, guarded, completing, completionCall, firedCall, arrivedOf, arrivedBad}
 use Rattle.rf233_core.specs.Choice.{pick, oneOf}
-use Rattle.rf233_core.specs.Completion.{inNo, handleInterrupt, waitingCommit, pendingInterrupt, readyBookkeeping, frameEnd, interruptResult, completed}
+use Rattle.rf233_core.specs.Completion.{inNo, handleInterrupt, completed}
 use Rattle.rf233_core.specs.Engine.{perform, caseOf, own}
 use Rattle.rf233.specs.Pool.{copied, readBuffer}
 use Rattle.rf233.specs.Record.{poolFault}
@@ -35,32 +36,10 @@ unfolding caseOf
 done-own a d = done-perform (eval (treeAt _) a d) a d
 
 pub done-handle : (d : Driver) → IsDone (handleInterrupt d)
-unfolding handleInterrupt
-done-handle d = either IsDone _ _ _ (either IsDone _ _ _ refl refl) refl
-
-done-commit : (a : Arrived) (d : Driver) → IsDone (waitingCommit a d)
-unfolding waitingCommit
-done-commit a d = either IsDone _ _ _ refl (done-own a d)
-
-done-pending : (a : Arrived) (d : Driver) → IsDone (pendingInterrupt a d)
-unfolding pendingInterrupt
-done-pending a d = either IsDone _ _ _ (done-handle _) (done-commit a d)
-
-done-ready : (a : Arrived) (d : Driver) → IsDone (readyBookkeeping a d)
-unfolding readyBookkeeping
-done-ready a d = either IsDone _ _ _ (done-pending a _) (done-pending a d)
-
-done-frame : (a : Arrived) (d : Driver) → IsDone (frameEnd a d)
-unfolding frameEnd
-done-frame a d = either IsDone _ _ _ (either IsDone _ _ _ (done-ready a _) (either IsDone _ _ _ refl refl)) (done-ready a d)
-
-done-result : (a : Arrived) (d : Driver) → IsDone (interruptResult a d)
-unfolding interruptResult
-done-result a d = either IsDone _ _ _ (done-ready a d) (done-frame a _)
+done-handle = every-firing IsDone (λ d t. refl) done-own (λ t next p. refl)
 
 pub done-completed : (a : Arrived) (d : Driver) → IsDone (completed a d)
-unfolding completed
-done-completed a d = either IsDone _ _ _ (done-result a _) (done-ready a _)
+done-completed = every-completion IsDone (λ d t. refl) done-own (λ t next p. refl)
 
 -- true is not false
 pub clash : {A : Type 0} (b : Bool) → b ≡ false → b ≡ true → A

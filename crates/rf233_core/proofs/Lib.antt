@@ -6,3 +6,4 @@ pub mod Keys
 pub mod Tables
 pub mod Logic
 pub mod Fit
+pub mod EveryStep
