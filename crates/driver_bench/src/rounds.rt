@@ -3,7 +3,10 @@ use crate::digest::Digest;
 use crate::digest::mixed;
 use crate::digest::no_digest;
 use rf233::create::new;
+use rf233_core::answer::Outcome;
 use rf233_core::driver::Driver;
+use scenario::event::complete;
+use scenario::event::is_completion;
 use scenario::event::make;
 use scenario::event::width;
 
@@ -22,9 +25,17 @@ fn first() -> Run {
     }
 }
 
+// Most events are completions: they go to their call past the choice among all calls, which the compiler would join with it.
+fn outcome(d: Driver, events: &[u8], pool: &mut [u8]) -> Outcome {
+    if is_completion(events) {
+        return complete(d, events, pool);
+    }
+    make(d, events, pool)
+}
+
 fn step(run: Run, events: &[u8], pool: &mut [u8]) -> Run {
     let before = run.driver;
-    let out = make(before, events, pool);
+    let out = outcome(before, events, pool);
     let reply = out.reply;
     let digest = mixed(run.digest, reply.transfer, reply.actions, pool);
     let driver = out.driver;

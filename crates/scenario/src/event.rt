@@ -26,6 +26,11 @@ fn at(events: &[u8], i: usize) -> u8 {
     0
 }
 
+// A completion begins the list.
+pub fn is_completion(events: &[u8]) -> bool {
+    at(events, 0) == 3
+}
+
 // How many bytes the event that begins the list has.
 pub fn width(events: &[u8]) -> usize
     ensures { λ r. ⌜ 1 ≤ r ⌝ }
@@ -46,7 +51,8 @@ fn with_listeners(d: Driver) -> Outcome {
     refuse(Answer::Done, set_config_client(c, true))
 }
 
-fn complete(d: Driver, events: &[u8], pool: &mut [u8]) -> Outcome {
+// The completion that begins the list.
+pub fn complete(d: Driver, events: &[u8], pool: &mut [u8]) -> Outcome {
     let end = at(events, 1) as usize + 2;
     if events.len() < end {
         return refuse(Answer::Done, d);
