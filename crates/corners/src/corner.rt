@@ -3,14 +3,14 @@
 // length of its read buffer; `+` a notice: p power, s sent with ack and code, r received with length and CRC, c config done, d dropped;
 // `!N.` before it a refusal.
 use rf233::create::new;
-use rf233_core::action::Action;
-use rf233_core::action::Actions;
-use rf233_core::action::Item;
-use rf233_core::answer::Outcome;
-use rf233_core::answer::answer_number;
-use rf233_core::driver::Driver;
-use rf233_core::state::state_number;
-use rf233_core::transfer::Transfer;
+use rf233::action::Action;
+use rf233::action::Actions;
+use rf233::action::Item;
+use rf233::answer::Outcome;
+use rf233::answer::answer_number;
+use rf233::driver::Driver;
+use rf233::state::state_number;
+use rf233::transfer::Transfer;
 use scenario::event::make;
 use scenario::event::width;
 use script::print::byte;

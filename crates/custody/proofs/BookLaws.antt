@@ -9,15 +9,15 @@ use lib.Dec.{eqb, ltb}
 use lib.ListN.{length, getD, set, length-set}
 use lib.Seq.{getD-set-same, getD-set-other}
 use borrow.Author.Tests.{eqb-true, eqb-false, eq-eqb, ne-eqb, ltb-true, ltb-false}
-use Rattle.rf233_core.proofs.Conditions.{by-flag}
+use Rattle.rf233.proofs.Conditions.{by-flag}
 use Rattle.custody.specs.Claim.{only, kindOf}
-use Rattle.rf233_core.specs.Completion.{has}
+use Rattle.rf233.specs.Completion.{has}
 use Rattle.rf233.specs.Record.{one}
-use Rattle.rf233_core.specs.Transfer.{isIdle}
-use Rattle.rf233_core.specs.declared.driver.Slot.{Slot}
-use Rattle.rf233_core.specs.declared.driver.Slot.the-variants.{Empty, Held}
-use Rattle.rf233_core.specs.declared.driver.Under.{Under}
-use Rattle.rf233_core.specs.declared.driver.Under.the-variants.{Idle, Register, FrameRead, FrameWrite}
+use Rattle.rf233.specs.Transfer.{isIdle}
+use Rattle.rf233.specs.declared.driver.Slot.{Slot}
+use Rattle.rf233.specs.declared.driver.Slot.the-variants.{Empty, Held}
+use Rattle.rf233.specs.declared.driver.Under.{Under}
+use Rattle.rf233.specs.declared.driver.Under.the-variants.{Idle, Register, FrameRead, FrameWrite}
 use Rattle.rf233.specs.Place.{client, ownPlace, transmitPlace, receivePlace, wirePlace, when}
 
 -- the places by the four tests: own, transmit, receive, under way

@@ -7,40 +7,40 @@ use native.Mathlib.Omega.{arith}
 use lib.Dec.{T, eqb, leb, ltb}
 use lib.IntN.{ℤ}
 use borrow.Author.Tests.{le-leb, leb-true, lt-leb, ltb-false, leb-false, not-true}
-use Rattle.rf233_core.specs.Action.{actions}
-use Rattle.rf233_core.specs.Answer.{answerNo, stepOf, quiet, refused}
+use Rattle.rf233.specs.Action.{actions}
+use Rattle.rf233.specs.Answer.{answerNo, stepOf, quiet, refused}
 use Rattle.custody.specs.Book.{Page, Fed, called, entered, ended, begun, notedAll, turnedDown}
 use Rattle.custody.specs.Book.Fed.{completes, other, lendsTransmit, lendsReceive}
 use Rattle.rf233.specs.Calls.{Called, lent, started, startCall, stopped, stopCall, committing, commitCall, firedCall, completing, completionCall, resetCall, setPower, setChannel, handleBad, txBusy, rxFull, transmitting, transmitCall, receiveBufferCall}
-use Rattle.rf233_core.specs.Choice.{pick, oneOf}
+use Rattle.rf233.specs.Choice.{pick, oneOf}
 use Rattle.custody.specs.Claim.{Call, kindOf, fed, yields}
 use Rattle.custody.specs.Claim.Call.{start, stop, commit, fire, query, complete, transmit, receiveBuffer, reset, address, pan, channel, addressLong, power, listener}
-use Rattle.rf233_core.specs.Completion.{has, back, frameDone, returned, completed, handleInterrupt, inNo}
-use Rattle.rf233_core.specs.Driver.{flag, flagged, inState, withBuffers}
-use Rattle.rf233_core.specs.Driver.Flag.{radioOn, sending, handling, irqPending, configPending, sleepPending, wakePending, hearing}
+use Rattle.rf233.specs.Completion.{has, back, frameDone, returned, completed, handleInterrupt, inNo}
+use Rattle.rf233.specs.Driver.{flag, flagged, inState, withBuffers}
+use Rattle.rf233.specs.Driver.Flag.{radioOn, sending, handling, irqPending, configPending, sleepPending, wakePending, hearing}
 use Rattle.rf233.specs.Record as rec
 use Rattle.rf233.specs.Record.{recordHas, within, txLengthBad, rxLengthBad, lengthBad, heldBesides, described, frameNo, frameUnfit, bufferMissing}
-use Rattle.rf233_core.specs.State.{stateNo, stateFrame}
-use Rattle.rf233_core.specs.Transfer.{isIdle, refrains, registerTransfer}
-use Rattle.rf233_core.specs.declared.answer.Answer.{Answer}
-use Rattle.rf233_core.specs.declared.answer.Answer.the-variants.{Done, Off, Busy, Size, Long, Inval, Already, Handle, Short, Full, Pool, Configure}
-use Rattle.rf233_core.specs.declared.answer.Answer.the-variants as answers
-use Rattle.rf233_core.specs.declared.answer.Outcome.{Outcome}
-use Rattle.rf233_core.specs.declared.arrived.Arrived.{Arrived}
-use Rattle.rf233_core.specs.declared.driver.Buffers.{Buffers}
-use Rattle.rf233_core.specs.declared.driver.Driver.{Driver}
-use Rattle.rf233_core.specs.declared.driver.Slot.{Slot}
-use Rattle.rf233_core.specs.declared.driver.Slot.the-variants.{Empty, Held}
-use Rattle.rf233_core.specs.declared.driver.Under.{Under}
-use Rattle.rf233_core.specs.declared.driver.Under.the-variants.{Idle, Register, FrameRead, FrameWrite}
-use Rattle.rf233_core.specs.declared.state.InternalState.{InternalState}
-use Rattle.rf233_core.specs.declared.state.InternalState.the-variants.{«SLEEP_WAKE», «SLEEP_TRX_OFF», «CONFIG_SHORT0_SET», «TX_STATUS_PRECHECK1»}
+use Rattle.rf233.specs.State.{stateNo, stateFrame}
+use Rattle.rf233.specs.Transfer.{isIdle, refrains, registerTransfer}
+use Rattle.rf233.specs.declared.answer.Answer.{Answer}
+use Rattle.rf233.specs.declared.answer.Answer.the-variants.{Done, Off, Busy, Size, Long, Inval, Already, Handle, Short, Full, Pool, Configure}
+use Rattle.rf233.specs.declared.answer.Answer.the-variants as answers
+use Rattle.rf233.specs.declared.answer.Outcome.{Outcome}
+use Rattle.rf233.specs.declared.arrived.Arrived.{Arrived}
+use Rattle.rf233.specs.declared.driver.Buffers.{Buffers}
+use Rattle.rf233.specs.declared.driver.Driver.{Driver}
+use Rattle.rf233.specs.declared.driver.Slot.{Slot}
+use Rattle.rf233.specs.declared.driver.Slot.the-variants.{Empty, Held}
+use Rattle.rf233.specs.declared.driver.Under.{Under}
+use Rattle.rf233.specs.declared.driver.Under.the-variants.{Idle, Register, FrameRead, FrameWrite}
+use Rattle.rf233.specs.declared.state.InternalState.{InternalState}
+use Rattle.rf233.specs.declared.state.InternalState.the-variants.{«SLEEP_WAKE», «SLEEP_TRX_OFF», «CONFIG_SHORT0_SET», «TX_STATUS_PRECHECK1»}
 use Rattle.rf233.proofs.Accepted.{IsDone, done-handle, done-completed}
 use Rattle.custody.proofs.Custody.{Inv, After, Fits, Lengths, register-refrains, under-idle}
 use Rattle.custody.proofs.Engine.{asks, rest-handles, ready-keeps, result-keeps}
-use Rattle.rf233_core.proofs.Fit.{Kind, kind, fit, joins, frameOf, doneNo, return-fits, rx-empty, tx-empty, fit-frame, fit-places, join-same, join-32, join-30, join-45, join-33, unsent, tx-fits, rx-fits}
-use Rattle.rf233_core.proofs.Fit.Kind.{nothing, access, reading, writing}
-use Rattle.rf233_core.proofs.Logic.{branch, either, left, right, pair, is-true, is-false}
+use Rattle.rf233.proofs.Fit.{Kind, kind, fit, joins, frameOf, doneNo, return-fits, rx-empty, tx-empty, fit-frame, fit-places, join-same, join-32, join-30, join-45, join-33, unsent, tx-fits, rx-fits}
+use Rattle.rf233.proofs.Fit.Kind.{nothing, access, reading, writing}
+use Rattle.rf233.proofs.Logic.{branch, either, left, right, pair, is-true, is-false}
 use Rattle.custody.specs.Ranges.{transferFits, actionsFit, replyFits}
 use Rattle.custody.proofs.Match.{Match, ends, refuses, lends-tx, lends-rx, once, somewhere}
 use Rattle.rf233.proofs.Sound.{both-left, both-right}

@@ -12,41 +12,41 @@ use native.Mathlib.Nat.{not-suc-le-zero, le-of-suc-le-suc, le-refl, le-step}
 use Rattle.rf233_const.specs.Bits.{bitSet}
 use Rattle.rf233_const.specs.Command as command
 use Rattle.rf233_const.specs.Flags.{rxCrcValidBit}
-use Rattle.rf233_core.specs.Action.{actions, item}
+use Rattle.rf233.specs.Action.{actions, item}
 use Rattle.custody.specs.Book.{Page, begun, taken, noted, notedAll, given}
-use Rattle.rf233_core.specs.Choice.{pick, oneOf}
+use Rattle.rf233.specs.Choice.{pick, oneOf}
 use Rattle.custody.specs.Claim.{kindOf, underKind}
-use Rattle.rf233_core.specs.Completion.{has}
-use Rattle.rf233_core.specs.Driver.{Flag, Setting, flag, setFlag, setAll, flagNo, setting, inState, withBuffers}
-use Rattle.rf233_core.specs.Driver.Flag.{sending, handling, crcValid}
-use Rattle.rf233_core.specs.Driver.Setting.{put, putCrc}
-use Rattle.rf233_core.specs.Engine.{bufferIn, perform, accessed, shown, handed, entering, withoutTx, withoutRx, own, caseOf}
+use Rattle.rf233.specs.Completion.{has}
+use Rattle.rf233.specs.Driver.{Flag, Setting, flag, setFlag, setAll, flagNo, setting, inState, withBuffers}
+use Rattle.rf233.specs.Driver.Flag.{sending, handling, crcValid}
+use Rattle.rf233.specs.Driver.Setting.{put, putCrc}
+use Rattle.rf233.specs.Engine.{bufferIn, perform, accessed, shown, handed, entering, withoutTx, withoutRx, own, caseOf}
 use Rattle.rf233.specs.Record as rec
 use Rattle.rf233.specs.Record.{within, slotAbove, txLengthBad, rxLengthBad, lengthBad}
-use Rattle.rf233_core.specs.Rows.{Access, Shown, Next, Row, holds, eval, treeAt}
-use Rattle.rf233_core.specs.Rows.Test.{lengthFits}
-use Rattle.rf233_core.specs.Rows.Access.{none, reads, writes, readsLength, readsFrame, writesFrame}
-use Rattle.rf233_core.specs.Rows.Shown.{plain, powerChanged, configDone, sentBack, droppedBack, receivedBack}
-use Rattle.rf233_core.specs.Rows.Row.{does}
-use Rattle.rf233_core.specs.State.{stateNo}
-use Rattle.rf233_core.specs.Transfer.{isIdle, recorded, transferOf, begins, refrains, registerTransfer, frameRead, frameReadInto, frameWrite, frameWriteFrom}
-use Rattle.rf233_core.specs.declared.action.Action.{Action}
-use Rattle.rf233_core.specs.declared.action.Action.the-variants.{Nothing, Power, Sent, Received, ConfigDone, Dropped, IrqMakeInput, IrqClear, IrqSetFloatingState, IrqEnableInterrupts, IrqDisableInterrupts, SleepMakeOutput, SleepSet, SleepClear, ResetMakeOutput, ResetClear, ResetSet}
-use Rattle.rf233_core.specs.declared.answer.Outcome.{Outcome}
-use Rattle.rf233_core.specs.declared.answer.Reply.{Reply}
-use Rattle.rf233_core.specs.declared.arrived.Arrived.{Arrived}
-use Rattle.rf233_core.specs.declared.driver.Buffers.{Buffers}
-use Rattle.rf233_core.specs.declared.driver.Driver.{Driver}
-use Rattle.rf233_core.specs.declared.driver.Flags.{Flags}
-use Rattle.rf233_core.specs.declared.transfer.Started.{Started}
-use Rattle.rf233_core.specs.declared.driver.Under.{Under}
-use Rattle.rf233_core.specs.declared.driver.Under.the-variants.{Idle, Register, FrameRead, FrameWrite}
-use Rattle.rf233_core.specs.declared.driver.Slot.{Slot}
-use Rattle.rf233_core.specs.declared.driver.Slot.the-variants.{Empty, Held}
-use Rattle.rf233_core.proofs.Fit.Kind.{nothing, access, reading, writing}
-use Rattle.rf233_core.proofs.Fit.{Kind, kind, fit, final, joins, harmless, okShown, txLeft, rxLeft, nextNo, okAccess, okRow}
+use Rattle.rf233.specs.Rows.{Access, Shown, Next, Row, holds, eval, treeAt}
+use Rattle.rf233.specs.Rows.Test.{lengthFits}
+use Rattle.rf233.specs.Rows.Access.{none, reads, writes, readsLength, readsFrame, writesFrame}
+use Rattle.rf233.specs.Rows.Shown.{plain, powerChanged, configDone, sentBack, droppedBack, receivedBack}
+use Rattle.rf233.specs.Rows.Row.{does}
+use Rattle.rf233.specs.State.{stateNo}
+use Rattle.rf233.specs.Transfer.{isIdle, recorded, transferOf, begins, refrains, registerTransfer, frameRead, frameReadInto, frameWrite, frameWriteFrom}
+use Rattle.rf233.specs.declared.action.Action.{Action}
+use Rattle.rf233.specs.declared.action.Action.the-variants.{Nothing, Power, Sent, Received, ConfigDone, Dropped, IrqMakeInput, IrqClear, IrqSetFloatingState, IrqEnableInterrupts, IrqDisableInterrupts, SleepMakeOutput, SleepSet, SleepClear, ResetMakeOutput, ResetClear, ResetSet}
+use Rattle.rf233.specs.declared.answer.Outcome.{Outcome}
+use Rattle.rf233.specs.declared.answer.Reply.{Reply}
+use Rattle.rf233.specs.declared.arrived.Arrived.{Arrived}
+use Rattle.rf233.specs.declared.driver.Buffers.{Buffers}
+use Rattle.rf233.specs.declared.driver.Driver.{Driver}
+use Rattle.rf233.specs.declared.driver.Flags.{Flags}
+use Rattle.rf233.specs.declared.transfer.Started.{Started}
+use Rattle.rf233.specs.declared.driver.Under.{Under}
+use Rattle.rf233.specs.declared.driver.Under.the-variants.{Idle, Register, FrameRead, FrameWrite}
+use Rattle.rf233.specs.declared.driver.Slot.{Slot}
+use Rattle.rf233.specs.declared.driver.Slot.the-variants.{Empty, Held}
+use Rattle.rf233.proofs.Fit.Kind.{nothing, access, reading, writing}
+use Rattle.rf233.proofs.Fit.{Kind, kind, fit, final, joins, harmless, okShown, txLeft, rxLeft, nextNo, okAccess, okRow}
 use Rattle.rf233.proofs.Sound.{both-left, both-right}
-use Rattle.rf233_core.proofs.Logic.{branch, left, right, pair}
+use Rattle.rf233.proofs.Logic.{branch, left, right, pair}
 use Rattle.custody.specs.Ranges.{transferFits, actionFits, actionsFit}
 use Rattle.custody.proofs.BookLaws.{register-kind}
 use Rattle.custody.proofs.Match.{Match, noFrame, begins-register, begins-read, begins-write, ends, gives-tx, gives-rx, lends-tx, lends-rx, refuses}

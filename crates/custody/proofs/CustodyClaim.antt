@@ -14,15 +14,15 @@ use Rattle.rf233.specs.New.{newCall, newDriver}
 use Rattle.custody.specs.Book.{Page, newPage}
 use Rattle.rf233.specs.Place.{client, firstPlace, placeOf}
 use Rattle.rf233.specs.Record.{within, poolFault}
-use Rattle.rf233_core.specs.declared.answer.Outcome.{Outcome}
+use Rattle.rf233.specs.declared.answer.Outcome.{Outcome}
 use Rattle.custody.specs.Ranges.{InRange}
-use Rattle.rf233_core.specs.State.{stateNo}
-use Rattle.rf233_core.specs.declared.driver.Driver.{Driver}
+use Rattle.rf233.specs.State.{stateNo}
+use Rattle.rf233.specs.declared.driver.Driver.{Driver}
 use Rattle.custody.proofs.Custody.{Inv, Lengths}
 use Rattle.custody.proofs.Calls.{keeps, sound}
-use Rattle.rf233_core.proofs.Conditions.{by-flag}
-use Rattle.rf233_core.proofs.Fit.{fit}
-use Rattle.rf233_core.proofs.Logic.{branch, left, is-true}
+use Rattle.rf233.proofs.Conditions.{by-flag}
+use Rattle.rf233.proofs.Fit.{fit}
+use Rattle.rf233.proofs.Logic.{branch, left, is-true}
 use Rattle.rf233.proofs.Sound.{both-left}
 use Rattle.custody.proofs.Match.{match-new, counted-in-record}
 

@@ -7,31 +7,31 @@ use Prim.Native.Nat.{ℕ, _≤_}
 use native.Mathlib.Nat.{le-trans}
 use lib.Dec.{T, eqb, leb, leb→le}
 use lib.ListN.{length}
-use Rattle.rf233_core.specs.Action.{actions}
-use Rattle.rf233_core.specs.Answer.{stepOf, quiet}
+use Rattle.rf233.specs.Action.{actions}
+use Rattle.rf233.specs.Answer.{stepOf, quiet}
 use Rattle.custody.specs.Book.{Page, begun, notedAll}
-use Rattle.rf233_core.specs.Choice.{pick, oneOf}
+use Rattle.rf233.specs.Choice.{pick, oneOf}
 use Rattle.custody.specs.Claim.{kindOf}
-use Rattle.rf233_core.specs.Completion.{has, inNo, fallsOn, handleInterrupt, waitingCommit, pendingInterrupt, readyBookkeeping, interruptState, frameEnd, interruptResult, nowOn, rxStart, trxEnd, pllLock}
-use Rattle.rf233_core.specs.Driver.{Setting, flag, setAll, setting, flagged, inState, withBuffers}
-use Rattle.rf233_core.specs.Driver.Flag.{sending, handling, hearing, irqPending, configPending}
-use Rattle.rf233_core.specs.Engine.{perform, accessed, caseOf, own, shown, handed, entering, transitionRead, transitionWrite}
-use Rattle.rf233_core.specs.Rows.{Access, Shown, Next, Row, holds, eval, trees, treeAt}
-use Rattle.rf233_core.specs.Rows.Test.{lengthFits}
-use Rattle.rf233_core.specs.Rows.Next.{same, to}
-use Rattle.rf233_core.specs.Rows.Row.{does}
-use Rattle.rf233_core.specs.State.{stateNo}
-use Rattle.rf233_core.specs.Transfer.{isIdle, registerTransfer}
-use Rattle.rf233_core.specs.declared.answer.Outcome.{Outcome}
-use Rattle.rf233_core.specs.declared.arrived.Arrived.{Arrived}
-use Rattle.rf233_core.specs.declared.driver.Buffers.{Buffers}
-use Rattle.rf233_core.specs.declared.driver.Driver.{Driver}
-use Rattle.rf233_core.specs.declared.state.InternalState.{InternalState}
-use Rattle.rf233_core.specs.declared.state.InternalState.the-variants.{READY, «CONFIG_SHORT0_SET», «RX_TURNING_OFF», «RX_START_READING», «TX_STATUS_PRECHECK1»}
+use Rattle.rf233.specs.Completion.{has, inNo, fallsOn, handleInterrupt, waitingCommit, pendingInterrupt, readyBookkeeping, interruptState, frameEnd, interruptResult, nowOn, rxStart, trxEnd, pllLock}
+use Rattle.rf233.specs.Driver.{Setting, flag, setAll, setting, flagged, inState, withBuffers}
+use Rattle.rf233.specs.Driver.Flag.{sending, handling, hearing, irqPending, configPending}
+use Rattle.rf233.specs.Engine.{perform, accessed, caseOf, own, shown, handed, entering, transitionRead, transitionWrite}
+use Rattle.rf233.specs.Rows.{Access, Shown, Next, Row, holds, eval, trees, treeAt}
+use Rattle.rf233.specs.Rows.Test.{lengthFits}
+use Rattle.rf233.specs.Rows.Next.{same, to}
+use Rattle.rf233.specs.Rows.Row.{does}
+use Rattle.rf233.specs.State.{stateNo}
+use Rattle.rf233.specs.Transfer.{isIdle, registerTransfer}
+use Rattle.rf233.specs.declared.answer.Outcome.{Outcome}
+use Rattle.rf233.specs.declared.arrived.Arrived.{Arrived}
+use Rattle.rf233.specs.declared.driver.Buffers.{Buffers}
+use Rattle.rf233.specs.declared.driver.Driver.{Driver}
+use Rattle.rf233.specs.declared.state.InternalState.{InternalState}
+use Rattle.rf233.specs.declared.state.InternalState.the-variants.{READY, «CONFIG_SHORT0_SET», «RX_TURNING_OFF», «RX_START_READING», «TX_STATUS_PRECHECK1»}
 use Rattle.custody.proofs.Custody.{Inv, After, Fits, Lengths, Begun, notes, filled, filled-fits, shown-fits, fewer, hands, handed-lengths, handed-under, handed-tx, handed-rx, flag-after, access-keeps, register-keeps, under-idle, register-begins, lengths-register}
-use Rattle.rf233_core.proofs.Fit.{kind, fit, final, okShown, okAccess, okRow, txLeft, rxLeft, nextNo, row-fits, not-handling, to-46, to-60, to-handling, to-62, to-33, to-29, to-59, to-28, to-42}
-use Rattle.rf233_core.proofs.Fit.Kind.{nothing, access}
-use Rattle.rf233_core.proofs.Logic.{branch, left, right, is-false}
+use Rattle.rf233.proofs.Fit.{kind, fit, final, okShown, okAccess, okRow, txLeft, rxLeft, nextNo, row-fits, not-handling, to-46, to-60, to-handling, to-62, to-33, to-29, to-59, to-28, to-42}
+use Rattle.rf233.proofs.Fit.Kind.{nothing, access}
+use Rattle.rf233.proofs.Logic.{branch, left, right, is-false}
 use Rattle.rf233.proofs.Sound.{none-left}
 use Rattle.rf233.specs.Record.{slotAbove}
 use Rattle.custody.proofs.Match.{Match, begins-register}

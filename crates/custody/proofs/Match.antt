@@ -10,21 +10,21 @@ use lib.ListN.{length, getD, set, length-set, replicate, List·getD-append, getD
 use borrow.Author.Tests.{ltb-false, eqb-true, eqb-false, ne-eqb, le-ltb, lt-ltb}
 use Rattle.custody.proofs.BookLaws.{At, at, own-wire, tx-wire, rx-wire, wire-own, wire-tx, wire-rx, tx-client, rx-client, client-tx, client-rx}
 use Rattle.custody.proofs.BookLaws.{put, away, away-set, sized-two, put-two, away-two, plain-kind, register-kind, idle-is, empty-is, none-of, one-some, one-twice, low, same}
-use Rattle.rf233_core.proofs.Conditions.{by-flag}
+use Rattle.rf233.proofs.Conditions.{by-flag}
 use Rattle.custody.specs.Book.{Page, page, missing, newPage, taken, ended, given, brought, turnedDown}
 use Rattle.rf233.specs.Calls.{lent}
 use Rattle.custody.specs.Claim.{only, heldBelow, kindOf, underKind, underWrite, underRead}
-use Rattle.rf233_core.specs.Completion.{has, back}
-use Rattle.rf233_core.specs.Engine.{withoutTx, withoutRx}
+use Rattle.rf233.specs.Completion.{has, back}
+use Rattle.rf233.specs.Engine.{withoutTx, withoutRx}
 use Rattle.rf233.specs.New.{newDriver}
 use Rattle.rf233.specs.Record.{one, ownHas, slotHas, underHas, slotAbove, underSlot, countOf, recordHas, twiceBelow, recordedTwice, ownNowhere, clientAbove, heldBesides}
-use Rattle.rf233_core.specs.Transfer.{isIdle, recorded}
-use Rattle.rf233_core.specs.declared.answer.Reply.{Reply}
-use Rattle.rf233_core.specs.declared.driver.Buffers.{Buffers}
-use Rattle.rf233_core.specs.declared.driver.Slot.{Slot}
-use Rattle.rf233_core.specs.declared.driver.Slot.the-variants.{Empty, Held}
-use Rattle.rf233_core.specs.declared.driver.Under.{Under}
-use Rattle.rf233_core.specs.declared.driver.Under.the-variants.{Idle, Register, FrameRead, FrameWrite}
+use Rattle.rf233.specs.Transfer.{isIdle, recorded}
+use Rattle.rf233.specs.declared.answer.Reply.{Reply}
+use Rattle.rf233.specs.declared.driver.Buffers.{Buffers}
+use Rattle.rf233.specs.declared.driver.Slot.{Slot}
+use Rattle.rf233.specs.declared.driver.Slot.the-variants.{Empty, Held}
+use Rattle.rf233.specs.declared.driver.Under.{Under}
+use Rattle.rf233.specs.declared.driver.Under.the-variants.{Idle, Register, FrameRead, FrameWrite}
 use Rattle.rf233.specs.Place.{client, ownPlace, transmitPlace, receivePlace, placesOf, when}
 
 -- no frame transfer is under way

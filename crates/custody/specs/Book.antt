@@ -5,12 +5,12 @@ use mathlib.Core.Bool.{Bool, true, false, not, _&&_, _||_, cond}
 use mathlib.Core.List.{List, [], _∷_, _++_}
 use lib.Dec.{eqb, ltb}
 use lib.ListN.{getD, set, replicate}
-use Rattle.rf233_core.specs.Answer.{answerNo}
+use Rattle.rf233.specs.Answer.{answerNo}
 use Rattle.rf233.specs.Place.{client, ownPlace, transmitPlace, receivePlace, wirePlace}
-use Rattle.rf233_core.specs.declared.action.Action.{Action}
-use Rattle.rf233_core.specs.declared.action.Action.the-variants.{Nothing, Power, Sent, Received, ConfigDone, Dropped, IrqMakeInput, IrqClear, IrqSetFloatingState, IrqEnableInterrupts, IrqDisableInterrupts, SleepMakeOutput, SleepSet, SleepClear, ResetMakeOutput, ResetClear, ResetSet}
-use Rattle.rf233_core.specs.declared.action.Item.{Item}
-use Rattle.rf233_core.specs.declared.answer.Reply.{Reply}
+use Rattle.rf233.specs.declared.action.Action.{Action}
+use Rattle.rf233.specs.declared.action.Action.the-variants.{Nothing, Power, Sent, Received, ConfigDone, Dropped, IrqMakeInput, IrqClear, IrqSetFloatingState, IrqEnableInterrupts, IrqDisableInterrupts, SleepMakeOutput, SleepSet, SleepClear, ResetMakeOutput, ResetClear, ResetSet}
+use Rattle.rf233.specs.declared.action.Item.{Item}
+use Rattle.rf233.specs.declared.answer.Reply.{Reply}
 
 -- each of the 19 buffers' places; the transfer under way by its kind (0 none) and its two buffers; the three counts; the fault
 pub record Page : Type 0 where

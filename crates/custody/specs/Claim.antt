@@ -7,20 +7,20 @@ use mathlib.Core.List.{List, [], _∷_}
 use lib.Dec.{eqb}
 use lib.IntN.{ℤ}
 use lib.ListN.{getD}
-use Rattle.rf233_core.specs.Action.{actions}
-use Rattle.rf233_core.specs.Answer.{quiet}
+use Rattle.rf233.specs.Action.{actions}
+use Rattle.rf233.specs.Answer.{quiet}
 use Rattle.custody.specs.Book.{Page, Fed, newPage, entered}
 use Rattle.custody.specs.Book.Fed.{lendsTransmit, lendsReceive, completes, other}
 use Rattle.rf233.specs.Calls.{startCall, stopCall, commitCall, firedCall, completionCall, transmitCall, receiveBufferCall, resetCall, setAddress, setAddressLong, setPan, setPower, setChannel, setClient}
-use Rattle.rf233_core.specs.Driver.{Client}
+use Rattle.rf233.specs.Driver.{Client}
 use Rattle.rf233.specs.New.{newCall}
 use Rattle.rf233.specs.Place.{client, placesOf}
 use Rattle.rf233.specs.Record.{recordHas, one}
-use Rattle.rf233_core.specs.declared.answer.Outcome.{Outcome}
-use Rattle.rf233_core.specs.declared.driver.Buffers.{Buffers}
-use Rattle.rf233_core.specs.declared.driver.Driver.{Driver}
-use Rattle.rf233_core.specs.declared.driver.Under.{Under}
-use Rattle.rf233_core.specs.declared.driver.Under.the-variants.{Idle, Register, FrameRead, FrameWrite}
+use Rattle.rf233.specs.declared.answer.Outcome.{Outcome}
+use Rattle.rf233.specs.declared.driver.Buffers.{Buffers}
+use Rattle.rf233.specs.declared.driver.Driver.{Driver}
+use Rattle.rf233.specs.declared.driver.Under.{Under}
+use Rattle.rf233.specs.declared.driver.Under.the-variants.{Idle, Register, FrameRead, FrameWrite}
 
 -- the calls of demand 3, with their arguments; `query` stands for `initialize` and the methods that only read
 pub data Call : Type 0 where

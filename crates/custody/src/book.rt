@@ -1,10 +1,10 @@
 // The book of custody: where each buffer is, by what calls bring, answer, do and start. It never looks at the driver.
-use rf233_core::action::Action;
-use rf233_core::action::Actions;
-use rf233_core::action::Item;
-use rf233_core::answer::Reply;
-use rf233_core::answer::answer_number;
-use rf233_core::transfer::Transfer;
+use rf233::action::Action;
+use rf233::action::Actions;
+use rf233::action::Item;
+use rf233::answer::Reply;
+use rf233::answer::answer_number;
+use rf233::transfer::Transfer;
 ghost use mathlib.Core.Path.{_≡_};
 ghost use lib.ListN.{getD, set};
 ghost use Rattle.custody.specs.Book.{newPage, missing, brought, endPlaces, ended, called, given, noted, notedAll, writeFrom, readFrom, namesOwn, taken, begun, turnedDown, entered};

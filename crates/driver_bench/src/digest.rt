@@ -1,8 +1,8 @@
 // A digest of what a driver sends and tells: each byte is mixed in by a rotation and an exclusive or.
-use rf233_core::action::Action;
-use rf233_core::action::Actions;
-use rf233_core::action::Item;
-use rf233_core::transfer::Transfer;
+use rf233::action::Action;
+use rf233::action::Actions;
+use rf233::action::Item;
+use rf233::transfer::Transfer;
 
 // Of the bytes sent, and of the notices, apart: the order of the two within a step is left open.
 pub struct Digest {

@@ -2,7 +2,7 @@
 use crate::run::Run;
 use custody::book::Book;
 use rf233::place::place_in_record;
-use rf233_core::driver::Buffers;
+use rf233::driver::Buffers;
 use script::print::byte_fields;
 use script::print::field;
 use script::print::line_end;

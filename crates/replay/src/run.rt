@@ -2,8 +2,8 @@
 use custody::book::Book;
 use custody::book::new_book;
 use rf233::create::new;
-use rf233_core::answer::Outcome;
-use rf233_core::driver::Driver;
+use rf233::answer::Outcome;
+use rf233::driver::Driver;
 
 // How many bytes of the area the calls are lent at first.
 const POOL_LENGTH: usize = 3040;

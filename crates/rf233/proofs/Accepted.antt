@@ -5,23 +5,23 @@ use mathlib.Core.Bool.{Bool, true, false, not, _&&_, _||_}
 use mathlib.Core.List.{List}
 use Prim.Native.Nat.{ℕ}
 use lib.Dec.{T, eqb}
-use Rattle.rf233_core.proofs.EveryStep.{every-firing, every-completion}
-use Rattle.rf233_core.proofs.Logic.{either}
-use Rattle.rf233_core.specs.Answer.{answerNo}
+use Rattle.rf233.proofs.EveryStep.{every-firing, every-completion}
+use Rattle.rf233.proofs.Logic.{either}
+use Rattle.rf233.specs.Answer.{answerNo}
 use Rattle.rf233.specs.Calls.{Called, guarded, completing, completionCall, firedCall, arrivedOf, arrivedBad}
-use Rattle.rf233_core.specs.Choice.{pick, oneOf}
-use Rattle.rf233_core.specs.Completion.{inNo, handleInterrupt, completed}
-use Rattle.rf233_core.specs.Engine.{perform, caseOf, own}
+use Rattle.rf233.specs.Choice.{pick, oneOf}
+use Rattle.rf233.specs.Completion.{inNo, handleInterrupt, completed}
+use Rattle.rf233.specs.Engine.{perform, caseOf, own}
 use Rattle.rf233.specs.Pool.{copied, readBuffer}
 use Rattle.rf233.specs.Record.{poolFault}
-use Rattle.rf233_core.specs.Rows.{Row, eval, treeAt}
-use Rattle.rf233_core.specs.Rows.Row.{does}
+use Rattle.rf233.specs.Rows.{Row, eval, treeAt}
+use Rattle.rf233.specs.Rows.Row.{does}
 use Rattle.rf233.specs.Startup.{after, accepted}
-use Rattle.rf233_core.specs.Transfer.{isIdle}
-use Rattle.rf233_core.specs.declared.answer.Answer.the-variants.{Done}
-use Rattle.rf233_core.specs.declared.answer.Outcome.{Outcome}
-use Rattle.rf233_core.specs.declared.arrived.Arrived.{Arrived}
-use Rattle.rf233_core.specs.declared.driver.Driver.{Driver}
+use Rattle.rf233.specs.Transfer.{isIdle}
+use Rattle.rf233.specs.declared.answer.Answer.the-variants.{Done}
+use Rattle.rf233.specs.declared.answer.Outcome.{Outcome}
+use Rattle.rf233.specs.declared.arrived.Arrived.{Arrived}
+use Rattle.rf233.specs.declared.driver.Driver.{Driver}
 
 -- the answer is done
 abbrev pub IsDone : Outcome → Type 0

@@ -3,16 +3,16 @@ use Prim.Native.Nat.{ℕ, _+_}
 use mathlib.Core.Path.{_≡_, refl, sym, _∙_}
 use mathlib.Core.Bool.{Bool, true, false, not, _&&_, _||_, and-false, or-true, or-false, or-assoc, or-comm}
 use lib.Dec.{eqb, ltb}
-use Rattle.rf233_core.specs.Completion.{has}
-use Rattle.rf233_core.specs.State.{stateNo, stateFrame}
+use Rattle.rf233.specs.Completion.{has}
+use Rattle.rf233.specs.State.{stateNo, stateFrame}
 use Rattle.rf233.proofs.Twice.{uncounted}
 use Rattle.rf233.specs.Record.{slotAbove, underSlot, sameBuffer, ownWrong, within, sending, receiving, txLengthBad, rxLengthBad, lengthBad, heldBesides, frameNo, frameUnfit, frameBad, bufferMissing, described}
-use Rattle.rf233_core.specs.declared.driver.Buffers.{Buffers}
-use Rattle.rf233_core.specs.declared.driver.Driver.{Driver}
-use Rattle.rf233_core.specs.declared.driver.Slot.{Slot}
-use Rattle.rf233_core.specs.declared.driver.Slot.the-variants.{Empty, Held}
-use Rattle.rf233_core.specs.declared.driver.Under.{Under}
-use Rattle.rf233_core.specs.declared.driver.Under.the-variants.{Idle, Register, FrameRead, FrameWrite}
+use Rattle.rf233.specs.declared.driver.Buffers.{Buffers}
+use Rattle.rf233.specs.declared.driver.Driver.{Driver}
+use Rattle.rf233.specs.declared.driver.Slot.{Slot}
+use Rattle.rf233.specs.declared.driver.Slot.the-variants.{Empty, Held}
+use Rattle.rf233.specs.declared.driver.Under.{Under}
+use Rattle.rf233.specs.declared.driver.Under.the-variants.{Idle, Register, FrameRead, FrameWrite}
 
 or-left-comm : (a b c : Bool) → a || (b || c) ≡ b || (a || c)
 or-left-comm true b c = simp or-true

@@ -7,17 +7,17 @@ use Prim.Native.Nat.{ℕ, _≤_, _<_}
 use native.Mathlib.Omega.{arith}
 use lib.Dec.{leb, ltb, lit<}
 use borrow.Author.Tests.{ne-eqb, ltb-true, ltb-false, leb-true, le-leb, not-false}
-use Rattle.rf233_core.specs.Choice.{oneOf}
+use Rattle.rf233.specs.Choice.{oneOf}
 use Rattle.rf233.specs.New.{newDriver}
 use Rattle.rf233.specs.Record.{described, countOf, slotHas, slotAbove, underHas, ownHas, one, clientAbove, recordedTwice, ownNowhere, twiceBelow, recordHas, within}
-use Rattle.rf233_core.specs.State.{stateNo, stateFrame}
-use Rattle.rf233_core.specs.Transfer.{recorded}
-use Rattle.rf233_core.specs.declared.driver.Buffers.{Buffers}
-use Rattle.rf233_core.specs.declared.driver.Driver.{Driver}
-use Rattle.rf233_core.specs.declared.driver.Slot.{Slot}
-use Rattle.rf233_core.specs.declared.driver.Slot.the-variants.{Empty, Held}
-use Rattle.rf233_core.specs.declared.driver.Under.{Under}
-use Rattle.rf233_core.specs.declared.driver.Under.the-variants.{Register, FrameRead}
+use Rattle.rf233.specs.State.{stateNo, stateFrame}
+use Rattle.rf233.specs.Transfer.{recorded}
+use Rattle.rf233.specs.declared.driver.Buffers.{Buffers}
+use Rattle.rf233.specs.declared.driver.Driver.{Driver}
+use Rattle.rf233.specs.declared.driver.Slot.{Slot}
+use Rattle.rf233.specs.declared.driver.Slot.the-variants.{Empty, Held}
+use Rattle.rf233.specs.declared.driver.Under.{Under}
+use Rattle.rf233.specs.declared.driver.Under.the-variants.{Register, FrameRead}
 use Rattle.rf233.proofs.Sound.{none-left, none-right, both-left}
 
 -- an own buffer's place, from what the record has

@@ -8,10 +8,10 @@ use native.Mathlib.Omega.{arith}
 use lib.ListN.{length, take, drop, length-append, length-take, length-drop, length-set, take-append-drop}
 use lib.Seq.{take-length, drop-append-le, drop-drop}
 use borrow.Rule.Slice.PartMut.{midOf, putMid}
-use Rattle.rf233_core.proofs.Logic.{of-choice}
-use Rattle.rf233_core.specs.Choice.{pick}
+use Rattle.rf233.proofs.Logic.{of-choice}
+use Rattle.rf233.specs.Choice.{pick}
 use Rattle.rf233.specs.Pool.{startOf, written, copied}
-use Rattle.rf233_core.specs.declared.transfer.Transfer.{Transfer}
+use Rattle.rf233.specs.declared.transfer.Transfer.{Transfer}
 
 -- a choice between equals is that
 pick-same : (v : Bool) (n : ℕ) → pick v n n ≡ n

@@ -10,10 +10,10 @@ use mathlib.Core.List.{List}
 use lib.ListN.{length}
 use Rattle.rf233.specs.Pool.{readBuffer, writeLength, readLength, shorter}
 use Rattle.rf233.specs.Record.{slotAbove, underSlot, clientAbove, recordedTwice, ownNowhere, lengthBad, within, described, poolFault}
-use Rattle.rf233_core.specs.declared.driver.Buffers.{Buffers}
-use Rattle.rf233_core.specs.declared.driver.Driver.{Driver}
-use Rattle.rf233_core.specs.declared.driver.Under.{Under}
-use Rattle.rf233_core.specs.declared.driver.Under.the-variants.{Idle, Register, FrameRead, FrameWrite}
+use Rattle.rf233.specs.declared.driver.Buffers.{Buffers}
+use Rattle.rf233.specs.declared.driver.Driver.{Driver}
+use Rattle.rf233.specs.declared.driver.Under.{Under}
+use Rattle.rf233.specs.declared.driver.Under.the-variants.{Idle, Register, FrameRead, FrameWrite}
 
 -- neither of two tests holds
 pub none-left : (a b : Bool) → a || b ≡ false → a ≡ false

@@ -9,22 +9,22 @@ use lib.IntN.{ℤ, pos}
 use lib.ListN.{length, getD}
 use Rattle.rf233_const.specs.Bits.{bitSet}
 use Rattle.rf233_const.specs.Status.{chipStatus}
-use Rattle.rf233_core.specs.Action.{actions}
-use Rattle.rf233_core.specs.Answer.{quiet, refused}
+use Rattle.rf233.specs.Action.{actions}
+use Rattle.rf233.specs.Answer.{quiet, refused}
 use Rattle.rf233.specs.Calls.{Called, refusing, startCall, commitCall, completionCall, arrivedBad, setPower, settingsOf, withSettings, transmitCall}
 use Rattle.rf233.specs.New.{newCall}
-use Rattle.rf233_core.specs.Power.{minus, settingToPower, powerToSetting}
+use Rattle.rf233.specs.Power.{minus, settingToPower, powerToSetting}
 use Rattle.rf233.specs.Record as rec
 use Rattle.rf233.specs.Record.{described, recordHas}
-use Rattle.rf233_core.specs.State.{stateNo}
-use Rattle.rf233_core.specs.Transfer.{transferOf, noTransfer, isIdle}
-use Rattle.rf233_core.specs.declared.action.Action.the-variants.{Sent}
-use Rattle.rf233_core.specs.declared.answer.Answer.the-variants.{Done, Size, Long, Inval}
-use Rattle.rf233_core.specs.declared.driver.Driver.{Driver}
-use Rattle.rf233_core.specs.declared.driver.Slot.the-variants.{Empty, Held}
-use Rattle.rf233_core.specs.declared.driver.Under.{Under}
-use Rattle.rf233_core.specs.declared.driver.Under.the-variants.{Idle, Register, FrameRead}
-use Rattle.rf233_core.proofs.Keys.{range}
+use Rattle.rf233.specs.State.{stateNo}
+use Rattle.rf233.specs.Transfer.{transferOf, noTransfer, isIdle}
+use Rattle.rf233.specs.declared.action.Action.the-variants.{Sent}
+use Rattle.rf233.specs.declared.answer.Answer.the-variants.{Done, Size, Long, Inval}
+use Rattle.rf233.specs.declared.driver.Driver.{Driver}
+use Rattle.rf233.specs.declared.driver.Slot.the-variants.{Empty, Held}
+use Rattle.rf233.specs.declared.driver.Under.{Under}
+use Rattle.rf233.specs.declared.driver.Under.the-variants.{Idle, Register, FrameRead}
+use Rattle.rf233.proofs.Keys.{range}
 
 -- the driver with another power
 abbrev pub withPower : ℤ → Driver → Driver

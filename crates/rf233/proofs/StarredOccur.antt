@@ -8,15 +8,15 @@ use lib.Dec.{lit≤}
 use lib.IntN.{pos}
 use lib.ListN.{replicate, length-replicate}
 use Rattle.rf233.specs.Calls.{settingsOf}
-use Rattle.rf233_core.specs.Driver.{driver, flagsOf}
+use Rattle.rf233.specs.Driver.{driver, flagsOf}
 use Rattle.rf233.specs.Record.{described, countOf}
-use Rattle.rf233_core.specs.declared.driver.Driver.{Driver}
-use Rattle.rf233_core.specs.declared.driver.Slot.{Slot}
-use Rattle.rf233_core.specs.declared.driver.Slot.the-variants.{Empty, Held}
-use Rattle.rf233_core.specs.declared.driver.Under.{Under}
-use Rattle.rf233_core.specs.declared.driver.Under.the-variants.{Idle, Register, FrameRead}
-use Rattle.rf233_core.specs.declared.state.InternalState.{InternalState}
-use Rattle.rf233_core.specs.declared.state.InternalState.the-variants.{«START_XAH0_SET», «START_PANID0_SET», READY, SLEEP, «TX_RETURN_TO_RX», «CONFIG_SHORT1_SET», «CONFIG_PAN0_SET», «RX_READING_FRAME_LEN», «RX_READING_FRAME_LEN_DONE»}
+use Rattle.rf233.specs.declared.driver.Driver.{Driver}
+use Rattle.rf233.specs.declared.driver.Slot.{Slot}
+use Rattle.rf233.specs.declared.driver.Slot.the-variants.{Empty, Held}
+use Rattle.rf233.specs.declared.driver.Under.{Under}
+use Rattle.rf233.specs.declared.driver.Under.the-variants.{Idle, Register, FrameRead}
+use Rattle.rf233.specs.declared.state.InternalState.{InternalState}
+use Rattle.rf233.specs.declared.state.InternalState.the-variants.{«START_XAH0_SET», «START_PANID0_SET», READY, SLEEP, «TX_RETURN_TO_RX», «CONFIG_SHORT1_SET», «CONFIG_PAN0_SET», «RX_READING_FRAME_LEN», «RX_READING_FRAME_LEN_DONE»}
 use Rattle.rf233.proofs.Starred.{Passes12, In, MaySend, Completes, Detours}
 
 -- a pool

@@ -11,41 +11,41 @@ use Rattle.rf233_const.specs.Bits.{bitSet}
 use Rattle.rf233_const.specs.Command as command
 use Rattle.rf233_const.specs.Register.{registerAddress}
 use Rattle.rf233_const.specs.declared.register.RF233Register.{RF233Register}
-use Rattle.rf233_core.specs.Action.{actions}
-use Rattle.rf233_core.specs.Answer.{quiet}
-use Rattle.rf233_core.specs.Choice.{pick}
+use Rattle.rf233.specs.Action.{actions}
+use Rattle.rf233.specs.Answer.{quiet}
+use Rattle.rf233.specs.Choice.{pick}
 use Rattle.rf233.specs.Calls.{Called, stepping, refusing, channelFits, started, startCall, committing, commitCall, completing, completionCall, setPower, transmitting, transmitCall}
-use Rattle.rf233_core.specs.Completion.{completed, readyBookkeeping, pendingInterrupt, waitingCommit, frameDone, returned, nowOn, interruptResult, frameEnd, interruptState}
-use Rattle.rf233_core.specs.Driver.{inState, flagged}
-use Rattle.rf233_core.specs.Driver.Flag.{hearing, configPending}
-use Rattle.rf233_core.specs.Engine.{caseOf, perform, acknowledged, failed}
+use Rattle.rf233.specs.Completion.{completed, readyBookkeeping, pendingInterrupt, waitingCommit, frameDone, returned, nowOn, interruptResult, frameEnd, interruptState}
+use Rattle.rf233.specs.Driver.{inState, flagged}
+use Rattle.rf233.specs.Driver.Flag.{hearing, configPending}
+use Rattle.rf233.specs.Engine.{caseOf, perform, acknowledged, failed}
 use Rattle.rf233.specs.New.{newCall, newDriver}
 use Rattle.rf233.specs.Pool.{startOf, written}
 use Rattle.rf233.specs.Record.{within}
-use Rattle.rf233_core.specs.Rows.{trees, treeAt, eval, holds}
-use Rattle.rf233_core.specs.Rows.Access.{writes}
-use Rattle.rf233_core.specs.Rows.Next.{to}
-use Rattle.rf233_core.specs.Rows.Row.{does}
-use Rattle.rf233_core.specs.Rows.Tree.{leaf}
-use Rattle.rf233_core.specs.State.{stateNo}
-use Rattle.rf233_core.specs.Transfer.{transferOf, registerTransfer, frameReadInto, isIdle}
-use Rattle.rf233_core.specs.Value.{valueOf}
-use Rattle.rf233_core.specs.declared.answer.Answer.the-variants.{Size, Long}
-use Rattle.rf233_core.specs.declared.answer.Outcome.{Outcome}
-use Rattle.rf233_core.specs.declared.arrived.Arrived.{Arrived}
-use Rattle.rf233_core.specs.declared.driver.Driver.{Driver}
-use Rattle.rf233_core.specs.declared.driver.Slot.the-variants.{Held}
-use Rattle.rf233_core.specs.declared.driver.Under.the-variants.{Idle, Register}
-use Rattle.rf233_core.specs.declared.startup.Value.{Value}
-use Rattle.rf233_core.specs.declared.startup.Value.the-variants.{AddrLow, AddrHigh}
-use Rattle.rf233_core.specs.declared.state.InternalState.{InternalState}
-use Rattle.rf233_core.specs.declared.state.InternalState.the-variants.{«CONFIG_SHORT0_SET»}
-use Rattle.rf233_core.specs.declared.transfer.Started.{Started}
-use Rattle.rf233_core.specs.declared.transfer.Transfer.{Transfer}
-use Rattle.rf233_core.proofs.Logic.{either}
+use Rattle.rf233.specs.Rows.{trees, treeAt, eval, holds}
+use Rattle.rf233.specs.Rows.Access.{writes}
+use Rattle.rf233.specs.Rows.Next.{to}
+use Rattle.rf233.specs.Rows.Row.{does}
+use Rattle.rf233.specs.Rows.Tree.{leaf}
+use Rattle.rf233.specs.State.{stateNo}
+use Rattle.rf233.specs.Transfer.{transferOf, registerTransfer, frameReadInto, isIdle}
+use Rattle.rf233.specs.Value.{valueOf}
+use Rattle.rf233.specs.declared.answer.Answer.the-variants.{Size, Long}
+use Rattle.rf233.specs.declared.answer.Outcome.{Outcome}
+use Rattle.rf233.specs.declared.arrived.Arrived.{Arrived}
+use Rattle.rf233.specs.declared.driver.Driver.{Driver}
+use Rattle.rf233.specs.declared.driver.Slot.the-variants.{Held}
+use Rattle.rf233.specs.declared.driver.Under.the-variants.{Idle, Register}
+use Rattle.rf233.specs.declared.startup.Value.{Value}
+use Rattle.rf233.specs.declared.startup.Value.the-variants.{AddrLow, AddrHigh}
+use Rattle.rf233.specs.declared.state.InternalState.{InternalState}
+use Rattle.rf233.specs.declared.state.InternalState.the-variants.{«CONFIG_SHORT0_SET»}
+use Rattle.rf233.specs.declared.transfer.Started.{Started}
+use Rattle.rf233.specs.declared.transfer.Transfer.{Transfer}
+use Rattle.rf233.proofs.Logic.{either}
 use Rattle.rf233.proofs.Accepted.{arrived}
-use Rattle.rf233_core.proofs.Conditions.{by-flag}
-use Rattle.rf233_core.proofs.Keys.{range}
+use Rattle.rf233.proofs.Conditions.{by-flag}
+use Rattle.rf233.proofs.Keys.{range}
 use Rattle.rf233.proofs.OwnBuffers.{Plain, moved, tx-home, rx-home, buf-home, frame-home, same-record, new-fit}
 use Rattle.rf233.proofs.PoolLaws.{written-length}
 use Rattle.rf233.proofs.Sound.{both-left}

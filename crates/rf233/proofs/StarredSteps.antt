@@ -12,26 +12,26 @@ use borrow.Author.Tests.{eq-eqb, ltb-false}
 use Rattle.rf233_const.specs.Command as command
 use Rattle.rf233_const.specs.Register.{registerAddress}
 use Rattle.rf233_const.specs.declared.register.RF233Register.{RF233Register}
-use Rattle.rf233_core.specs.Choice.{pick}
+use Rattle.rf233.specs.Choice.{pick}
 use Rattle.rf233.specs.Calls.{Called, stepping, guarded, completing, completionCall}
-use Rattle.rf233_core.specs.Completion.{completed, readyBookkeeping, pendingInterrupt, waitingCommit, frameDone, returned}
-use Rattle.rf233_core.specs.Engine.{caseOf, perform}
+use Rattle.rf233.specs.Completion.{completed, readyBookkeeping, pendingInterrupt, waitingCommit, frameDone, returned}
+use Rattle.rf233.specs.Engine.{caseOf, perform}
 use Rattle.rf233.specs.Pool.{written, copied, readBuffer, shorter}
-use Rattle.rf233_core.specs.Rows.{treeAt, eval}
-use Rattle.rf233_core.specs.Rows.Access.{writes}
-use Rattle.rf233_core.specs.Rows.Next.{to}
-use Rattle.rf233_core.specs.Rows.Row.{does}
-use Rattle.rf233_core.specs.Rows.Tree.{leaf}
-use Rattle.rf233_core.specs.State.{stateNo}
-use Rattle.rf233_core.specs.Transfer.{transferOf, registerTransfer, isIdle}
-use Rattle.rf233_core.specs.Value.{valueOf}
-use Rattle.rf233_core.specs.declared.answer.Outcome.{Outcome}
-use Rattle.rf233_core.specs.declared.driver.Buffers.{Buffers}
-use Rattle.rf233_core.specs.declared.driver.Driver.{Driver}
-use Rattle.rf233_core.specs.declared.driver.Under.{Under}
-use Rattle.rf233_core.specs.declared.driver.Under.the-variants.{Register}
-use Rattle.rf233_core.specs.declared.startup.Value.{Value}
-use Rattle.rf233_core.specs.declared.state.InternalState.{InternalState}
+use Rattle.rf233.specs.Rows.{treeAt, eval}
+use Rattle.rf233.specs.Rows.Access.{writes}
+use Rattle.rf233.specs.Rows.Next.{to}
+use Rattle.rf233.specs.Rows.Row.{does}
+use Rattle.rf233.specs.Rows.Tree.{leaf}
+use Rattle.rf233.specs.State.{stateNo}
+use Rattle.rf233.specs.Transfer.{transferOf, registerTransfer, isIdle}
+use Rattle.rf233.specs.Value.{valueOf}
+use Rattle.rf233.specs.declared.answer.Outcome.{Outcome}
+use Rattle.rf233.specs.declared.driver.Buffers.{Buffers}
+use Rattle.rf233.specs.declared.driver.Driver.{Driver}
+use Rattle.rf233.specs.declared.driver.Under.{Under}
+use Rattle.rf233.specs.declared.driver.Under.the-variants.{Register}
+use Rattle.rf233.specs.declared.startup.Value.{Value}
+use Rattle.rf233.specs.declared.state.InternalState.{InternalState}
 use Rattle.rf233.proofs.Accepted.{arrived}
 use Rattle.rf233.proofs.OwnBuffers.{Plain, moved, same-record}
 use Rattle.rf233.proofs.PoolLaws.{written-length, copied-length}

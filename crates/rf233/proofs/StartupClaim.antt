@@ -11,29 +11,29 @@ use lib.Dec.{T, eqb, leb, leb→le, eqb→eq}
 use borrow.Author.Tests.{eqb-true, eqb-false, le-leb, not-true, not-false}
 use lib.ListN.{getD}
 use Rattle.rf233_const.specs.Bits.{bitSet}
-use Rattle.rf233_core.specs.Choice.{pick, oneOf}
-use Rattle.rf233_core.specs.Completion.{inNo, completed, interruptResult, frameEnd, readyBookkeeping, pendingInterrupt, waitingCommit, handleInterrupt, interruptState, frameDone, pllLock, rxStart, trxEnd}
+use Rattle.rf233.specs.Choice.{pick, oneOf}
+use Rattle.rf233.specs.Completion.{inNo, completed, interruptResult, frameEnd, readyBookkeeping, pendingInterrupt, waitingCommit, handleInterrupt, interruptState, frameDone, pllLock, rxStart, trxEnd}
 use Rattle.rf233.specs.Calls.{startCall, started, completionCall, firedCall}
-use Rattle.rf233_core.specs.Driver.{driver, flagsOf}
-use Rattle.rf233_core.specs.Engine.{caseOf, perform}
+use Rattle.rf233.specs.Driver.{driver, flagsOf}
+use Rattle.rf233.specs.Engine.{caseOf, perform}
 use Rattle.rf233.specs.New.{newDriver}
 use Rattle.rf233.specs.Record.{poolFault}
-use Rattle.rf233_core.specs.Rows.{eval, trees, treeAt, holds}
+use Rattle.rf233.specs.Rows.{eval, trees, treeAt, holds}
 use Rattle.rf233.specs.Startup.{after, accepted, showsLock, Starting, StartsWithin30, StartupClaim}
 use Rattle.rf233.specs.Startup.Starting.{begins, completes, fires, completionRefused, firingRefused}
-use Rattle.rf233_core.specs.State.{stateNo}
-use Rattle.rf233_core.specs.Transfer.{isIdle, recorded, registerTransfer}
-use Rattle.rf233_core.specs.declared.arrived.Arrived.{Arrived}
-use Rattle.rf233_core.specs.declared.driver.Driver.{Driver}
-use Rattle.rf233_core.specs.declared.driver.Slot.the-variants.{Empty}
-use Rattle.rf233_core.specs.declared.driver.Under.{Under}
-use Rattle.rf233_core.specs.declared.driver.Under.the-variants.{Idle, Register}
-use Rattle.rf233_core.specs.declared.state.InternalState.{InternalState}
+use Rattle.rf233.specs.State.{stateNo}
+use Rattle.rf233.specs.Transfer.{isIdle, recorded, registerTransfer}
+use Rattle.rf233.specs.declared.arrived.Arrived.{Arrived}
+use Rattle.rf233.specs.declared.driver.Driver.{Driver}
+use Rattle.rf233.specs.declared.driver.Slot.the-variants.{Empty}
+use Rattle.rf233.specs.declared.driver.Under.{Under}
+use Rattle.rf233.specs.declared.driver.Under.the-variants.{Idle, Register}
+use Rattle.rf233.specs.declared.state.InternalState.{InternalState}
 use Rattle.rf233.proofs.Accepted.{past, clash, arrived, fired-accepted, completion-accepted, had-transfer, fired-refused, completion-refused}
-use Rattle.rf233_core.proofs.Keys.{range}
-use Rattle.rf233_core.proofs.Tables.{in-range}
+use Rattle.rf233.proofs.Keys.{range}
+use Rattle.rf233.proofs.Tables.{in-range}
 use Rattle.rf233.proofs.Sound.{both-left, both-right}
-use Rattle.rf233_core.specs.declared.state.InternalState.the-variants.{START, «START_PART_READ», «START_STATUS_READ», «START_TURNING_OFF», «START_CTRL1_SET», «START_CCA_SET», «START_PWR_SET», «START_CTRL2_SET», «START_IRQMASK_SET», «START_XAH1_SET», «START_XAH0_SET», «START_PANID0_SET», «START_PANID1_SET», «START_IEEE0_SET», «START_IEEE1_SET», «START_IEEE2_SET», «START_IEEE3_SET», «START_IEEE4_SET», «START_IEEE5_SET», «START_IEEE6_SET», «START_IEEE7_SET», «START_SHORT0_SET», «START_SHORT1_SET», «START_CSMA_0_SEEDED», «START_CSMA_1_SEEDED», «START_RPC_SET», «ON_STATUS_READ», «ON_PLL_WAITING», «ON_PLL_SET», READY}
+use Rattle.rf233.specs.declared.state.InternalState.the-variants.{START, «START_PART_READ», «START_STATUS_READ», «START_TURNING_OFF», «START_CTRL1_SET», «START_CCA_SET», «START_PWR_SET», «START_CTRL2_SET», «START_IRQMASK_SET», «START_XAH1_SET», «START_XAH0_SET», «START_PANID0_SET», «START_PANID1_SET», «START_IEEE0_SET», «START_IEEE1_SET», «START_IEEE2_SET», «START_IEEE3_SET», «START_IEEE4_SET», «START_IEEE5_SET», «START_IEEE6_SET», «START_IEEE7_SET», «START_SHORT0_SET», «START_SHORT1_SET», «START_CSMA_0_SEEDED», «START_CSMA_1_SEEDED», «START_RPC_SET», «ON_STATUS_READ», «ON_PLL_WAITING», «ON_PLL_SET», READY}
 
 -- the states of a startup, by number
 states : List InternalState

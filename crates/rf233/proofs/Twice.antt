@@ -7,16 +7,16 @@ use mathlib.Core.Bool.{Bool, true, false, not, _&&_, _||_, and-true, and-false, 
 use native.Mathlib.Omega.{arith}
 use lib.Dec.{T, eqb, ltb, eqb-refl, lit<, lt→ltb}
 use borrow.Author.Tests.{eqb-true, eqb-false, ne-eqb, ltb-false}
-use Rattle.rf233_core.proofs.Conditions.{by-flag}
-use Rattle.rf233_core.proofs.Logic.{is-true}
+use Rattle.rf233.proofs.Conditions.{by-flag}
+use Rattle.rf233.proofs.Logic.{is-true}
 use Rattle.rf233.proofs.OwnBuffers.{only-16, only-17, only-18, slot-below}
 use Rattle.rf233.proofs.Sound.{none-left, none-right}
 use Rattle.rf233.specs.Record.{slotHas, underHas, ownHas, slotAbove, underSlot, one, countOf, recordHas, twiceBelow, recordedTwice, ownNowhere, clientAbove, sameBuffer, ownWrong}
-use Rattle.rf233_core.specs.declared.driver.Buffers.{Buffers}
-use Rattle.rf233_core.specs.declared.driver.Slot.{Slot}
-use Rattle.rf233_core.specs.declared.driver.Slot.the-variants.{Empty, Held}
-use Rattle.rf233_core.specs.declared.driver.Under.{Under}
-use Rattle.rf233_core.specs.declared.driver.Under.the-variants.{Idle, Register, FrameRead, FrameWrite}
+use Rattle.rf233.specs.declared.driver.Buffers.{Buffers}
+use Rattle.rf233.specs.declared.driver.Slot.{Slot}
+use Rattle.rf233.specs.declared.driver.Slot.the-variants.{Empty, Held}
+use Rattle.rf233.specs.declared.driver.Under.{Under}
+use Rattle.rf233.specs.declared.driver.Under.the-variants.{Idle, Register, FrameRead, FrameWrite}
 
 -- tests that follow from each other are equal
 both-ways : (a b : Bool) → (T a → T b) → (T b → T a) → a ≡ b

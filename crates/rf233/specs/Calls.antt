@@ -10,35 +10,35 @@ use Rattle.rf233_const.specs.Status.{chipStatus}
 use Rattle.rf233_const.specs.TrxState.{commandValue}
 use Rattle.rf233_const.specs.declared.register.RF233Register.the-variants.{«PART_NUM», «TRX_STATUS», «TRX_STATE», «SHORT_ADDR_0»}
 use Rattle.rf233_const.specs.declared.trx_state.RF233TrxCmd.the-variants as cmd
-use Rattle.rf233_core.specs.Action.{actions}
-use Rattle.rf233_core.specs.Answer.{stepOf, quiet, refused}
-use Rattle.rf233_core.specs.Choice.{pick, oneOf}
-use Rattle.rf233_core.specs.Completion.{inNo, handleInterrupt, completed, has}
-use Rattle.rf233_core.specs.Driver.{Client, flag, flagged, driver, withBuffers}
-use Rattle.rf233_core.specs.Driver.Client.{txClient, rxClient, cfgClient, powerClient}
-use Rattle.rf233_core.specs.Driver.Flag.{radioOn, sending, hearing, configPending, sleepPending, wakePending}
-use Rattle.rf233_core.specs.Engine.{transitionRead, transitionWrite}
+use Rattle.rf233.specs.Action.{actions}
+use Rattle.rf233.specs.Answer.{stepOf, quiet, refused}
+use Rattle.rf233.specs.Choice.{pick, oneOf}
+use Rattle.rf233.specs.Completion.{inNo, handleInterrupt, completed, has}
+use Rattle.rf233.specs.Driver.{Client, flag, flagged, driver, withBuffers}
+use Rattle.rf233.specs.Driver.Client.{txClient, rxClient, cfgClient, powerClient}
+use Rattle.rf233.specs.Driver.Flag.{radioOn, sending, hearing, configPending, sleepPending, wakePending}
+use Rattle.rf233.specs.Engine.{transitionRead, transitionWrite}
 use Rattle.rf233.specs.Pool.{startOf, written, copied, readBuffer, shorter, lengthByte}
-use Rattle.rf233_core.specs.Power.{powerFits}
+use Rattle.rf233.specs.Power.{powerFits}
 use Rattle.rf233.specs.Record as rec
 use Rattle.rf233.specs.Record.{poolFault, recordHas}
-use Rattle.rf233_core.specs.State.{stateNo}
-use Rattle.rf233_core.specs.Transfer.{isIdle, registerRead}
-use Rattle.rf233_core.specs.Value.{valueOf}
-use Rattle.rf233_core.specs.declared.action.Action.the-variants.{ResetMakeOutput, SleepMakeOutput, ResetClear, ResetSet, SleepClear}
-use Rattle.rf233_core.specs.declared.answer.Answer.{Answer}
-use Rattle.rf233_core.specs.declared.answer.Answer.the-variants.{Off, Busy, Size, Long, Inval, Already, Handle, Held, Short, Full, Idle, Pool, Configure}
-use Rattle.rf233_core.specs.declared.answer.Answer.the-variants as answers
-use Rattle.rf233_core.specs.declared.answer.Outcome.{Outcome}
-use Rattle.rf233_core.specs.declared.arrived.Arrived.{Arrived}
-use Rattle.rf233_core.specs.declared.driver.Buffers.{Buffers}
-use Rattle.rf233_core.specs.declared.driver.Clients.{Clients}
-use Rattle.rf233_core.specs.declared.driver.Driver.{Driver}
-use Rattle.rf233_core.specs.declared.driver.Settings.{Settings}
-use Rattle.rf233_core.specs.declared.driver.Slot.{Slot}
-use Rattle.rf233_core.specs.declared.driver.Slot.the-variants as slot
-use Rattle.rf233_core.specs.declared.startup.Value.the-variants.{AddrLow}
-use Rattle.rf233_core.specs.declared.state.InternalState.the-variants.{READY, «SLEEP_WAKE», «SLEEP_TRX_OFF», «CONFIG_SHORT0_SET», «TX_STATUS_PRECHECK1»}
+use Rattle.rf233.specs.State.{stateNo}
+use Rattle.rf233.specs.Transfer.{isIdle, registerRead}
+use Rattle.rf233.specs.Value.{valueOf}
+use Rattle.rf233.specs.declared.action.Action.the-variants.{ResetMakeOutput, SleepMakeOutput, ResetClear, ResetSet, SleepClear}
+use Rattle.rf233.specs.declared.answer.Answer.{Answer}
+use Rattle.rf233.specs.declared.answer.Answer.the-variants.{Off, Busy, Size, Long, Inval, Already, Handle, Held, Short, Full, Idle, Pool, Configure}
+use Rattle.rf233.specs.declared.answer.Answer.the-variants as answers
+use Rattle.rf233.specs.declared.answer.Outcome.{Outcome}
+use Rattle.rf233.specs.declared.arrived.Arrived.{Arrived}
+use Rattle.rf233.specs.declared.driver.Buffers.{Buffers}
+use Rattle.rf233.specs.declared.driver.Clients.{Clients}
+use Rattle.rf233.specs.declared.driver.Driver.{Driver}
+use Rattle.rf233.specs.declared.driver.Settings.{Settings}
+use Rattle.rf233.specs.declared.driver.Slot.{Slot}
+use Rattle.rf233.specs.declared.driver.Slot.the-variants as slot
+use Rattle.rf233.specs.declared.startup.Value.the-variants.{AddrLow}
+use Rattle.rf233.specs.declared.state.InternalState.the-variants.{READY, «SLEEP_WAKE», «SLEEP_TRX_OFF», «CONFIG_SHORT0_SET», «TX_STATUS_PRECHECK1»}
 
 -- what a call yields, and the pool after it
 pub record Called : Type 0 where

@@ -1,3 +1,14 @@
+pub mod Choice
+pub mod State
+pub mod Driver
+pub mod Action
+pub mod Transfer
+pub mod Answer
+pub mod Power
+pub mod Value
+pub mod Rows
+pub mod Engine
+pub mod Completion
 pub mod Pool
 pub mod Record
 pub mod Calls

@@ -3,19 +3,19 @@ use Prim.Native.Nat.{ℕ}
 use mathlib.Core.Bool.{Bool, true, false, _&&_}
 use mathlib.Core.List.{[], _∷_}
 use lib.ListN.{replicate}
-use Rattle.rf233_core.specs.Action.{actions}
-use Rattle.rf233_core.specs.Answer.{quiet, refused}
+use Rattle.rf233.specs.Action.{actions}
+use Rattle.rf233.specs.Answer.{quiet, refused}
 use Rattle.rf233.specs.Calls.{settingsOf, channelFits}
-use Rattle.rf233_core.specs.Choice.{pick}
-use Rattle.rf233_core.specs.Driver.{driver, flagsOf}
-use Rattle.rf233_core.specs.Power.{settingToPower}
+use Rattle.rf233.specs.Choice.{pick}
+use Rattle.rf233.specs.Driver.{driver, flagsOf}
+use Rattle.rf233.specs.Power.{settingToPower}
 use Rattle.rf233.specs.Record.{within}
-use Rattle.rf233_core.specs.declared.answer.Answer.the-variants.{New}
-use Rattle.rf233_core.specs.declared.answer.Outcome.{Outcome}
-use Rattle.rf233_core.specs.declared.driver.Driver.{Driver}
-use Rattle.rf233_core.specs.declared.driver.Slot.the-variants.{Empty}
-use Rattle.rf233_core.specs.declared.driver.Under.the-variants.{Idle}
-use Rattle.rf233_core.specs.declared.state.InternalState.the-variants.{START}
+use Rattle.rf233.specs.declared.answer.Answer.the-variants.{New}
+use Rattle.rf233.specs.declared.answer.Outcome.{Outcome}
+use Rattle.rf233.specs.declared.driver.Driver.{Driver}
+use Rattle.rf233.specs.declared.driver.Slot.the-variants.{Empty}
+use Rattle.rf233.specs.declared.driver.Under.the-variants.{Idle}
+use Rattle.rf233.specs.declared.state.InternalState.the-variants.{START}
 
 -- the driver of a length of spi_buf and a channel: in START, every flag clear, no listener, addresses 0, the power of setting 0, its own
 -- buffers in their places

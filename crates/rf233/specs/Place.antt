@@ -3,7 +3,7 @@ use Prim.Native.Nat.{ℕ}
 use mathlib.Core.Bool.{Bool, cond}
 use mathlib.Core.List.{List, [], _∷_}
 use Rattle.rf233.specs.Record.{slotHas, underHas, ownHas}
-use Rattle.rf233_core.specs.declared.driver.Buffers.{Buffers}
+use Rattle.rf233.specs.declared.driver.Buffers.{Buffers}
 
 -- 0 with the client, 1 its own place, 2 the transmit place, 3 the receive place, 4 the transfer under way
 abbrev pub client : ℕ

@@ -4,12 +4,12 @@ use Prim.Native.Nat.{ℕ, _+_, _*_, min}
 use mathlib.Core.List.{List, _++_}
 use lib.Dec.{eqb, ltb}
 use lib.ListN.{length, getD, set, take, drop}
-use Rattle.rf233_core.specs.Choice.{pick}
-use Rattle.rf233_core.specs.Engine.{bufferIn}
-use Rattle.rf233_core.specs.declared.driver.Buffers.{Buffers}
-use Rattle.rf233_core.specs.declared.driver.Under.{Under}
-use Rattle.rf233_core.specs.declared.driver.Under.the-variants.{Idle, Register, FrameRead, FrameWrite}
-use Rattle.rf233_core.specs.declared.transfer.Transfer.{Transfer}
+use Rattle.rf233.specs.Choice.{pick}
+use Rattle.rf233.specs.Engine.{bufferIn}
+use Rattle.rf233.specs.declared.driver.Buffers.{Buffers}
+use Rattle.rf233.specs.declared.driver.Under.{Under}
+use Rattle.rf233.specs.declared.driver.Under.the-variants.{Idle, Register, FrameRead, FrameWrite}
+use Rattle.rf233.specs.declared.transfer.Transfer.{Transfer}
 
 -- the pool's length
 abbrev pub poolLength : ℕ

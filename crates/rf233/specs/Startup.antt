@@ -8,12 +8,12 @@ use mathlib.Core.List.{List}
 use lib.Dec.{eqb}
 use lib.ListN.{getD}
 use Rattle.rf233_const.specs.Bits.{bitSet}
-use Rattle.rf233_core.specs.Answer.{answerNo}
+use Rattle.rf233.specs.Answer.{answerNo}
 use Rattle.rf233.specs.Calls.{Called, startCall, completionCall, firedCall}
-use Rattle.rf233_core.specs.Completion.{inNo}
+use Rattle.rf233.specs.Completion.{inNo}
 use Rattle.rf233.specs.New.{newDriver}
-use Rattle.rf233_core.specs.Transfer.{isIdle}
-use Rattle.rf233_core.specs.declared.driver.Driver.{Driver}
+use Rattle.rf233.specs.Transfer.{isIdle}
+use Rattle.rf233.specs.declared.driver.Driver.{Driver}
 
 -- the driver that a call leaves
 abbrev pub after : Called → Driver

@@ -1,18 +1,18 @@
 // A new driver.
 use crate::config::channel_fits;
-use rf233_core::answer::Answer;
-use rf233_core::answer::Outcome;
-use rf233_core::answer::refuse;
-use rf233_core::driver::Buffers;
-use rf233_core::driver::Clients;
-use rf233_core::driver::Driver;
-use rf233_core::driver::Flags;
-use rf233_core::driver::Settings;
-use rf233_core::driver::Slot;
-use rf233_core::driver::Under;
-use rf233_core::power::setting_to_power;
-use rf233_core::state::InternalState;
-use rf233_core::step::stay;
+use crate::answer::Answer;
+use crate::answer::Outcome;
+use crate::answer::refuse;
+use crate::driver::Buffers;
+use crate::driver::Clients;
+use crate::driver::Driver;
+use crate::driver::Flags;
+use crate::driver::Settings;
+use crate::driver::Slot;
+use crate::driver::Under;
+use crate::power::setting_to_power;
+use crate::state::InternalState;
+use crate::step::stay;
 ghost use mathlib.Core.Path.{_≡_};
 ghost use Rattle.rf233.specs.New.{newDriver, newCall};
 

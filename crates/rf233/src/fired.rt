@@ -1,7 +1,7 @@
 // The interrupt entry: the kernel lends the driver, and it is altered where it is.
 use crate::kernel::fire;
-use rf233_core::answer::Reply;
-use rf233_core::driver::Driver;
+use crate::answer::Reply;
+use crate::driver::Driver;
 ghost use mathlib.Core.Path.{_≡_};
 ghost use Rattle.rf233.specs.Calls.{firedCall};
 

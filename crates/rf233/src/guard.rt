@@ -1,8 +1,8 @@
 // Refusal 12, asked before anything else, and the end of a step: its command bytes are written into the pool.
 use crate::pool::write_command;
 use crate::record::is_described;
-use rf233_core::answer::Outcome;
-use rf233_core::driver::Driver;
+use crate::answer::Outcome;
+use crate::driver::Driver;
 ghost use mathlib.Core.Path.{_≡_};
 ghost use mathlib.Core.Bool.{not, _||_};
 ghost use lib.Dec.{eqb};

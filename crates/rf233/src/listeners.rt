@@ -1,8 +1,8 @@
 // Listeners made present or absent: of `RadioConfig` the power and config listeners, of `RadioData` the other two.
-use rf233_core::driver::Driver;
+use crate::driver::Driver;
 ghost use mathlib.Core.Path.{_≡_};
 ghost use Rattle.rf233.specs.Calls.{setClient};
-ghost use Rattle.rf233_core.specs.Driver.Client.{txClient, rxClient, cfgClient, powerClient};
+ghost use Rattle.rf233.specs.Driver.Client.{txClient, rxClient, cfgClient, powerClient};
 
 pub fn set_config_client(d: Driver, present: bool) -> Driver
     ensures { λ r. ⌜ r ≡ setClient cfgClient d present ⌝ }

@@ -2,7 +2,7 @@
 use crate::record::own_has;
 use crate::record::slot_has;
 use crate::record::under_has;
-use rf233_core::driver::Buffers;
+use crate::driver::Buffers;
 ghost use mathlib.Core.Path.{_≡_};
 ghost use Rattle.rf233.specs.Place.{placeOf};
 

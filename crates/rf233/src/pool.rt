@@ -1,8 +1,8 @@
 // The lent pool of 19 buffers of 160 bytes: command bytes are written into it, arrived bytes are copied into it, one byte is read.
-use rf233_core::driver::Buffers;
-use rf233_core::driver::Under;
-use rf233_core::step::buffer_in;
-use rf233_core::transfer::Transfer;
+use crate::driver::Buffers;
+use crate::driver::Under;
+use crate::step::buffer_in;
+use crate::transfer::Transfer;
 ghost use mathlib.Core.Path.{_≡_};
 ghost use Prim.Native.Nat.{_+_, _≤_, _*_};
 ghost use lib.ListN.{length, getD, set};

@@ -1,15 +1,15 @@
 // The driver's record of its buffers: where a buffer is, and what refusal 12 describes, asked place by place.
-use rf233_core::driver::Buffers;
-use rf233_core::driver::Driver;
-use rf233_core::driver::Slot;
-use rf233_core::driver::Under;
-use rf233_core::interrupt::is_held;
-use rf233_core::state::state_number;
+use crate::driver::Buffers;
+use crate::driver::Driver;
+use crate::driver::Slot;
+use crate::driver::Under;
+use crate::interrupt::is_held;
+use crate::state::state_number;
 ghost use mathlib.Core.Path.{_≡_};
 ghost use mathlib.Core.Bool.{not, _||_};
 ghost use Prim.Native.Nat.{_≤_};
 ghost use lib.Dec.{eqb};
-ghost use Rattle.rf233_core.specs.State.{stateFrame};
+ghost use Rattle.rf233.specs.State.{stateFrame};
 ghost use Rattle.rf233.specs.Record.{slotHas, underHas, ownHas, one, countOf, recordHas, sending, receiving, slotAbove, sameBuffer, ownWrong, txLengthBad, rxLengthBad, frameNo, frameBad, bufferMissing, described};
 
 // The place has the buffer.

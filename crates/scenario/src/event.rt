@@ -12,10 +12,10 @@ use rf233::listeners::set_config_client;
 use rf233::listeners::set_power_client;
 use rf233::listeners::set_receive_client;
 use rf233::listeners::set_transmit_client;
-use rf233_core::answer::Answer;
-use rf233_core::answer::Outcome;
-use rf233_core::answer::refuse;
-use rf233_core::driver::Driver;
+use rf233::answer::Answer;
+use rf233::answer::Outcome;
+use rf233::answer::refuse;
+use rf233::driver::Driver;
 ghost use Prim.Native.Nat.{_≤_};
 
 // The byte there; past the end 0.

@@ -7,9 +7,9 @@ use crate::print::flag_field;
 use crate::print::line_end;
 use crate::print::signed_field;
 use crate::print::text;
-use rf233_core::action::Action;
-use rf233_core::action::Actions;
-use rf233_core::transfer::Transfer;
+use rf233::action::Action;
+use rf233::action::Actions;
+use rf233::transfer::Transfer;
 
 // `PLACE ANSWER FROM TO`
 pub fn head(out: &mut [u8], at: usize, place: u64, answer: u8, from: u8, to: u8) -> usize {

@@ -1,8 +1,8 @@
 // A step's actions as a column: what it asks of the pins, and its notices with their values.
 use crate::columns::or_dash;
 use record_words::words::nth;
-use rf233_core::action::Action;
-use rf233_core::action::Actions;
+use rf233::action::Action;
+use rf233::action::Actions;
 use script::print::byte;
 use script::print::decimal;
 use script::print::text;

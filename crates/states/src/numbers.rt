@@ -1,5 +1,5 @@
 // The state of a number: document 01's numbering read the other way.
-use rf233_core::state::InternalState;
+use rf233::state::InternalState;
 
 // Past 68 there is no state; the last one stands for the rest.
 pub fn state_of(n: u8) -> InternalState {

@@ -12,8 +12,8 @@ use rf233::data::set_receive_buffer;
 use rf233::data::transmit;
 use rf233::kernel::fire;
 use rf233::kernel::read_write_done;
-use rf233_core::answer::Outcome;
-use rf233_core::driver::Driver;
+use rf233::answer::Outcome;
+use rf233::driver::Driver;
 
 // The pool's 3,040 bytes, all 0.
 fn new_pool() -> [u8; 3040] {

@@ -4,13 +4,13 @@ use crate::numbers::state_of;
 use crate::situation::AT_REST;
 use crate::situation::DURING;
 use crate::situation::NO_INTERRUPT;
-use rf233_core::driver::Buffers;
-use rf233_core::driver::Clients;
-use rf233_core::driver::Driver;
-use rf233_core::driver::Flags;
-use rf233_core::driver::Settings;
-use rf233_core::driver::Slot;
-use rf233_core::driver::Under;
+use rf233::driver::Buffers;
+use rf233::driver::Clients;
+use rf233::driver::Driver;
+use rf233::driver::Flags;
+use rf233::driver::Settings;
+use rf233::driver::Slot;
+use rf233::driver::Under;
 
 // The states in which a frame transfer is under way.
 fn names_frame(n: u8) -> bool {

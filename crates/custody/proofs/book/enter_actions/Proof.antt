@@ -2,9 +2,9 @@
 use borrow.Author.Needs.{needs}
 use native.Mathlib.Omega.{arith}
 use lib.ListN.{length-map}
-use Rattle.rf233_core.specs.Action.{item}
+use Rattle.rf233.specs.Action.{item}
 use Rattle.custody.specs.BookCode.{pageOf}
-use Rattle.rf233_core.specs.declared.action.Action.the-variants.{Nothing}
+use Rattle.rf233.specs.declared.action.Action.the-variants.{Nothing}
 use Rattle.custody.proofs.BookCounts.{in-turn}
 use Rattle.custody.proofs.book.enter_actions.Statement.{statement}
 use Rattle.custody.proofs.book.enter_actions.Tie as tie

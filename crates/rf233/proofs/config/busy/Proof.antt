@@ -3,8 +3,8 @@ use borrow.Author.Needs.{needs}
 use mathlib.Core.Path.{sym, _∙_, ap}
 use mathlib.Core.Bool.{not}
 use lib.Dec.{eqb}
-use Rattle.rf233_core.specs.State.{stateNo}
-use Rattle.rf233_core.proofs.StateTests.{two}
+use Rattle.rf233.specs.State.{stateNo}
+use Rattle.rf233.proofs.StateTests.{two}
 use Rattle.rf233.proofs.config.busy.Statement.{statement}
 use Rattle.rf233.proofs.config.busy.Tie as tie
 

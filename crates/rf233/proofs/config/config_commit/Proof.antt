@@ -1,6 +1,6 @@
 -- `config_commit` meets its contract: refusal 12, or the step. Assumes nothing.
 use borrow.Author.Needs.{needs}
-use Rattle.rf233_core.specs.Choice.{pick}
+use Rattle.rf233.specs.Choice.{pick}
 use Rattle.rf233.specs.Calls.{commitCall}
 use Rattle.rf233.proofs.config.config_commit.Statement.{statement}
 use Rattle.rf233.proofs.config.config_commit.Tie as tie

@@ -1,6 +1,6 @@
 -- `reset` meets its contract: it is refused, or the pins are shown. Assumes nothing.
 use borrow.Author.Needs.{needs}
-use Rattle.rf233_core.specs.Choice.{pick}
+use Rattle.rf233.specs.Choice.{pick}
 use Rattle.rf233.specs.Calls.{resetCall}
 use Rattle.rf233.proofs.config.reset.Statement.{statement}
 use Rattle.rf233.proofs.config.reset.Tie as tie

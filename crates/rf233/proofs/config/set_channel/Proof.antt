@@ -1,6 +1,6 @@
 -- `set_channel` meets its contract: the range decides. Assumes nothing.
 use borrow.Author.Needs.{needs}
-use Rattle.rf233_core.specs.Choice.{pick}
+use Rattle.rf233.specs.Choice.{pick}
 use Rattle.rf233.specs.Calls.{setChannel}
 use Rattle.rf233.proofs.config.set_channel.Statement.{statement}
 use Rattle.rf233.proofs.config.set_channel.Tie as tie

@@ -2,9 +2,9 @@
 use borrow.Author.Needs.{needs}
 use mathlib.Core.Path.{_∙_, ap}
 use mir.Facts.{toZ-ofZ}
-use Rattle.rf233_core.specs.Choice.{pick}
+use Rattle.rf233.specs.Choice.{pick}
 use Rattle.rf233.specs.Calls.{setPower}
-use Rattle.rf233_core.specs.Power.{powerFits}
+use Rattle.rf233.specs.Power.{powerFits}
 use Rattle.rf233.proofs.config.set_tx_power.Statement.{statement}
 use Rattle.rf233.proofs.config.set_tx_power.Tie as tie
 

@@ -1,6 +1,6 @@
 -- `new` meets its contract: the ranges decide. Assumes nothing.
 use borrow.Author.Needs.{needs}
-use Rattle.rf233_core.specs.Choice.{pick}
+use Rattle.rf233.specs.Choice.{pick}
 use Rattle.rf233.specs.New.{newCall}
 use mathlib.Core.Bool.{_&&_}
 use lib.Dec.{leb}

@@ -1,6 +1,6 @@
 -- `begin_transmit` meets its contract: the test decides whether the send begins. Assumes nothing.
 use borrow.Author.Needs.{needs}
-use Rattle.rf233_core.specs.Choice.{pick}
+use Rattle.rf233.specs.Choice.{pick}
 use Rattle.rf233.specs.Calls.{transmitting}
 use Rattle.rf233.proofs.data.begin_transmit.Statement.{statement}
 use Rattle.rf233.proofs.data.begin_transmit.Tie as tie

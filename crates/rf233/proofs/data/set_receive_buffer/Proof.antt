@@ -3,7 +3,7 @@ use borrow.Author.Needs.{needs}
 use native.Mathlib.Omega.{arith}
 use borrow.Author.Tests.{lt-ltb, le-ltb, ltb-false}
 use lib.Dec.{ltb}
-use Rattle.rf233_core.specs.Choice.{pick}
+use Rattle.rf233.specs.Choice.{pick}
 use Rattle.rf233.specs.Calls.{receiveBufferCall}
 use Rattle.rf233.proofs.Sound.{none-left, none-right}
 use Rattle.rf233.proofs.data.set_receive_buffer.Statement.{statement}

@@ -4,7 +4,7 @@ use Prim.Native.Nat.{_+_, _-_}
 use native.Mathlib.Omega.{arith}
 use lib.Dec.{leb}
 use borrow.Author.Tests.{leb-true, leb-false, le-leb, lt-leb}
-use Rattle.rf233_core.proofs.Conditions.{by-flag}
+use Rattle.rf233.proofs.Conditions.{by-flag}
 use Rattle.rf233.proofs.data.size_bad.Statement.{statement}
 use Rattle.rf233.proofs.data.size_bad.Tie as tie
 

@@ -6,7 +6,7 @@ use Prim.Native.Nat.{_+_}
 use native.Mathlib.Omega.{arith}
 use borrow.Author.Tests.{lt-ltb, le-ltb, ltb-false}
 use lib.Dec.{leb, ltb}
-use Rattle.rf233_core.specs.Choice.{pick}
+use Rattle.rf233.specs.Choice.{pick}
 use Rattle.rf233.specs.Calls.{transmitCall, handleBad, txBusy}
 use Rattle.rf233.specs.Record.{poolFault, recordHas}
 use Rattle.rf233.proofs.Sound.{none-left, none-right}

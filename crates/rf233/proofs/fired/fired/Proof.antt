@@ -36,15 +36,15 @@ use denote.Triple.Clauses.{ensured, lasts}
 use denote.Triple.Table.{entered, cited}
 use denote.Triple.Walked.{says, Stays, stay-ref, gave-slice, walkOf, goes-ref, goes-gave-slice, Walks, ends-at, walked, walk-meets}
 use Rattle.rf233.specs.Calls.{firedCall}
-use Rattle.rf233_core.specs.declared.answer.Outcome.{Outcome}
-use Rattle.rf233_core.specs.declared.answer.Reply.{Reply}
-use Rattle.rf233_core.specs.declared.driver.Driver.{Driver}
-use Rattle.rf233_core.proofs.answer.Outcome as O
-use Rattle.rf233_core.proofs.answer.Outcome.Laws as O′
-use Rattle.rf233_core.proofs.answer.Reply as R
-use Rattle.rf233_core.proofs.answer.Reply.Laws as R′
-use Rattle.rf233_core.proofs.driver.Driver as D
-use Rattle.rf233_core.proofs.driver.Driver.Laws as D′
+use Rattle.rf233.specs.declared.answer.Outcome.{Outcome}
+use Rattle.rf233.specs.declared.answer.Reply.{Reply}
+use Rattle.rf233.specs.declared.driver.Driver.{Driver}
+use Rattle.rf233.proofs.answer.Outcome as O
+use Rattle.rf233.proofs.answer.Outcome.Laws as O′
+use Rattle.rf233.proofs.answer.Reply as R
+use Rattle.rf233.proofs.answer.Reply.Laws as R′
+use Rattle.rf233.proofs.driver.Driver as D
+use Rattle.rf233.proofs.driver.Driver.Laws as D′
 use Rattle.rf233.proofs.kernel.fire as step
 use Rattle.rf233.proofs.kernel.fire.Symbol as step-def
 use Rattle.rf233.proofs.kernel.fire.Symbol.{name as #rf233·kernel·fire}

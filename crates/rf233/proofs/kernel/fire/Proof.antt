@@ -1,6 +1,6 @@
 -- `fire` meets its contract: refusal 12, or the step. Assumes nothing.
 use borrow.Author.Needs.{needs}
-use Rattle.rf233_core.specs.Choice.{pick}
+use Rattle.rf233.specs.Choice.{pick}
 use Rattle.rf233.specs.Calls.{firedCall}
 use Rattle.rf233.proofs.kernel.fire.Statement.{statement}
 use Rattle.rf233.proofs.kernel.fire.Tie as tie

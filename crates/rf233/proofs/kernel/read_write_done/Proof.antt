@@ -4,7 +4,7 @@ use native.Mathlib.Omega.{arith}
 use lib.Dec.{ltb}
 use borrow.Author.Tests.{ltb-false}
 use lib.ListN.{length}
-use Rattle.rf233_core.specs.Choice.{pick}
+use Rattle.rf233.specs.Choice.{pick}
 use Rattle.rf233.specs.Calls.{completionCall, completing}
 use Rattle.rf233.specs.Pool.{shorter}
 use Rattle.rf233.proofs.Sound.{none-left, none-right, read-fits, shorter-fits, pool-right, driver-right}

@@ -1,7 +1,7 @@
 -- `write_command` meets its contract: each way is an end of the choice that its tests make, and `put` sets the byte. Assumes nothing.
 use borrow.Author.Needs.{needs}
 use borrow.Author.Tests.{eq-eqb, ne-eqb, lt-ltb, le-ltb}
-use Rattle.rf233_core.specs.Choice.{pick}
+use Rattle.rf233.specs.Choice.{pick}
 use Rattle.rf233.specs.Pool.{written}
 use Rattle.rf233.proofs.pool.write_command.Statement.{statement}
 use Rattle.rf233.proofs.pool.write_command.Tie as tie

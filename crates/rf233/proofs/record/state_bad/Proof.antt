@@ -6,9 +6,9 @@ use mathlib.Core.Logic.{_⊎_, inl, inr}
 use lib.Dec.{eqb}
 use borrow.Author.Needs.{needs}
 use borrow.Author.Tests.{ne-eqb}
-use Rattle.rf233_core.specs.Completion.{has}
-use Rattle.rf233_core.specs.State.{stateFrame}
-use Rattle.rf233_core.specs.declared.driver.Buffers.{Buffers}
+use Rattle.rf233.specs.Completion.{has}
+use Rattle.rf233.specs.State.{stateFrame}
+use Rattle.rf233.specs.declared.driver.Buffers.{Buffers}
 use Rattle.rf233.specs.Record.{frameNo, bufferMissing}
 use Rattle.rf233.proofs.record.state_bad.Statement.{statement}
 use Rattle.rf233.proofs.record.state_bad.Tie as tie

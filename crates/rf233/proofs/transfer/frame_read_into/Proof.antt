@@ -1,0 +1,37 @@
+-- `frame_read_into` meets its contract: it takes buffer 18 and the receive buffer, or refrains, as its one test says. Assumes nothing.
+use borrow.Author.Needs.{needs}
+use Rattle.rf233.specs.Choice.{pick}
+use Rattle.rf233.specs.Transfer.{frameReadInto}
+use Rattle.rf233.proofs.transfer.frame_read_into.Statement.{statement}
+use Rattle.rf233.proofs.transfer.frame_read_into.Tie as tie
+
+returns : tie.Need-returns
+unfolding frameReadInto pick
+returns c =
+    rw (
+      rw (c .before .before .before .before .before .before .before .is-idle .ensures) at (c .before .before .before .before .before .if1 .taken),
+      c .begin .ensures,
+      c .before .transfer-of .ensures,
+      c .before .before .frame-read-command .ensures,
+      c .before .before .before .with-rx-buf .ensures,
+      c .before .before .before .before .with-under .ensures,
+    )
+
+returns-2 : tie.Need-returns-2
+unfolding frameReadInto pick
+returns-2 c = rw (rw (c .before .before .before .is-idle .ensures) at (c .before .if1 .left), c .refrain .ensures)
+
+pub frame-read-into-spec : {M : Type 1} → statement M
+frame-read-into-spec =
+    tie.close
+    (tie.spec
+    (λ c κs. search needs)
+    (λ c. search needs)
+    (λ c κs. search needs)
+    (λ c κs. search needs)
+    (λ c κs. search needs)
+    (λ c κs. search needs)
+    (λ c κs. search needs)
+    returns
+    (λ c κs. search needs)
+    returns-2)

@@ -1,0 +1,38 @@
+-- `frame_write_from` meets its contract: it takes buffer 18 and the transmit buffer, or refrains, as its one test says. Assumes nothing.
+use borrow.Author.Needs.{needs}
+use Rattle.rf233.specs.Choice.{pick}
+use Rattle.rf233.specs.Transfer.{frameWriteFrom}
+use Rattle.rf233.proofs.transfer.frame_write_from.Statement.{statement}
+use Rattle.rf233.proofs.transfer.frame_write_from.Tie as tie
+
+returns : tie.Need-returns
+unfolding frameWriteFrom pick
+returns c =
+    rw (
+      rw (c .before .before .before .before .before .before .before .is-idle .ensures) at (c .before .before .before .before .before .if1 .taken),
+      c .begin .ensures,
+      c .before .transfer-of .ensures,
+      c .before .before .frame-write-command .ensures,
+      c .before .before .before .with-tx-buf .ensures,
+      c .before .before .before .before .with-under .ensures,
+    )
+
+returns-2 : tie.Need-returns-2
+unfolding frameWriteFrom pick
+returns-2 c = rw (rw (c .before .before .before .is-idle .ensures) at (c .before .if1 .left), c .refrain .ensures)
+
+pub frame-write-from-spec : {M : Type 1} → statement M
+frame-write-from-spec =
+    tie.close
+    (tie.spec
+    (λ c κs. search needs)
+    (λ c κs. search needs)
+    (λ c κs. search needs)
+    (λ c κs. search needs)
+    (λ c. search needs)
+    (λ c. search needs)
+    (λ c κs. search needs)
+    (λ c κs. search needs)
+    returns
+    (λ c κs. search needs)
+    returns-2)

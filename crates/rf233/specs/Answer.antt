@@ -1,0 +1,42 @@
+-- Document 01's refusals by number ("Who can cause which refusal"), and what a call yields: a step that was taken, or a refusal.
+use Prim.Native.Nat.{ℕ}
+use mathlib.Core.List.{[]}
+use Rattle.rf233.specs.Action.{actions}
+use Rattle.rf233.specs.Transfer.{noTransfer, refrains}
+use Rattle.rf233.specs.declared.action.Actions.{Actions}
+use Rattle.rf233.specs.declared.answer.Answer.{Answer}
+use Rattle.rf233.specs.declared.answer.Answer.the-variants.{Done, Off, Busy, Size, Long, Inval, Already, Handle, Held, Short, Full, Idle, Pool, Arrived, Configure, New}
+use Rattle.rf233.specs.declared.answer.Outcome.{Outcome}
+use Rattle.rf233.specs.declared.driver.Driver.{Driver}
+use Rattle.rf233.specs.declared.transfer.Started.{Started}
+
+-- the number of an answer: 0, or the refusal's
+abbrev pub answerNo : Answer → ℕ
+answerNo Done = 0
+answerNo Off = 1
+answerNo Busy = 2
+answerNo Size = 3
+answerNo Long = 4
+answerNo Inval = 5
+answerNo Already = 6
+answerNo Handle = 7
+answerNo Held = 8
+answerNo Short = 9
+answerNo Full = 10
+answerNo Idle = 11
+answerNo Pool = 12
+answerNo Arrived = 13
+answerNo Configure = 14
+answerNo New = 15
+
+-- a step that was taken: what a starter left, and these actions
+abbrev pub stepOf : Started → Actions → Outcome
+stepOf s l = record { driver = s .driver; reply = record { answer = Done; transfer = s .transfer; actions = l } }
+
+-- a step that starts nothing
+abbrev pub quiet : Driver → Actions → Outcome
+quiet d l = stepOf (refrains d) l
+
+-- a refusal: no transfer, no actions
+abbrev pub refused : Answer → Driver → Outcome
+refused a d = record { driver = d; reply = record { answer = a; transfer = noTransfer; actions = actions [] } }

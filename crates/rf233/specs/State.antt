@@ -1,0 +1,84 @@
+-- Document 01: states are numbered 0 to 68 in the order of `InternalState` (START 0, READY 29, SLEEP 31, RX 59).
+use Prim.Native.Nat.{ℕ}
+use mathlib.Core.Bool.{cond}
+use mathlib.Core.List.{[], _∷_}
+use lib.Dec.{eqb}
+use Rattle.rf233.specs.Choice.{oneOf}
+use Rattle.rf233.specs.declared.state.InternalState.{InternalState}
+use Rattle.rf233.specs.declared.state.InternalState.the-variants.{START, «START_PART_READ», «START_STATUS_READ», «START_TURNING_OFF», «START_CTRL1_SET», «START_CCA_SET», «START_PWR_SET», «START_CTRL2_SET», «START_IRQMASK_SET», «START_XAH1_SET», «START_XAH0_SET», «START_PANID0_SET», «START_PANID1_SET», «START_IEEE0_SET», «START_IEEE1_SET», «START_IEEE2_SET», «START_IEEE3_SET», «START_IEEE4_SET», «START_IEEE5_SET», «START_IEEE6_SET», «START_IEEE7_SET», «START_SHORT0_SET», «START_SHORT1_SET», «START_CSMA_0_SEEDED», «START_CSMA_1_SEEDED», «START_RPC_SET», «ON_STATUS_READ», «ON_PLL_WAITING», «ON_PLL_SET», READY, «SLEEP_TRX_OFF», SLEEP, «SLEEP_WAKE», «TX_STATUS_PRECHECK1», «TX_WRITING_FRAME», «TX_WRITING_FRAME_DONE», «TX_STATUS_PRECHECK2», «TX_PLL_START», «TX_PLL_WAIT», «TX_ARET_ON», «TX_TRANSMITTING», «TX_READ_ACK», «TX_DONE», «TX_RETURN_TO_RX», «TX_PENDING», «CONFIG_SHORT0_SET», «CONFIG_SHORT1_SET», «CONFIG_PAN0_SET», «CONFIG_PAN1_SET», «CONFIG_IEEE0_SET», «CONFIG_IEEE1_SET», «CONFIG_IEEE2_SET», «CONFIG_IEEE3_SET», «CONFIG_IEEE4_SET», «CONFIG_IEEE5_SET», «CONFIG_IEEE6_SET», «CONFIG_IEEE7_SET», «CONFIG_POWER_SET», «CONFIG_DONE», RX, «RX_TURNING_OFF», «RX_READY_TO_READ», «RX_START_READING», «RX_READING_FRAME_LEN», «RX_READING_FRAME_LEN_DONE», «RX_READING_FRAME», «RX_READING_FRAME_DONE», «RX_READING_FRAME_FCS_DONE», «RX_ENABLING_RECEPTION»}
+
+-- the number of a state
+abbrev pub stateNo : InternalState → ℕ
+stateNo START = 0
+stateNo «START_PART_READ» = 1
+stateNo «START_STATUS_READ» = 2
+stateNo «START_TURNING_OFF» = 3
+stateNo «START_CTRL1_SET» = 4
+stateNo «START_CCA_SET» = 5
+stateNo «START_PWR_SET» = 6
+stateNo «START_CTRL2_SET» = 7
+stateNo «START_IRQMASK_SET» = 8
+stateNo «START_XAH1_SET» = 9
+stateNo «START_XAH0_SET» = 10
+stateNo «START_PANID0_SET» = 11
+stateNo «START_PANID1_SET» = 12
+stateNo «START_IEEE0_SET» = 13
+stateNo «START_IEEE1_SET» = 14
+stateNo «START_IEEE2_SET» = 15
+stateNo «START_IEEE3_SET» = 16
+stateNo «START_IEEE4_SET» = 17
+stateNo «START_IEEE5_SET» = 18
+stateNo «START_IEEE6_SET» = 19
+stateNo «START_IEEE7_SET» = 20
+stateNo «START_SHORT0_SET» = 21
+stateNo «START_SHORT1_SET» = 22
+stateNo «START_CSMA_0_SEEDED» = 23
+stateNo «START_CSMA_1_SEEDED» = 24
+stateNo «START_RPC_SET» = 25
+stateNo «ON_STATUS_READ» = 26
+stateNo «ON_PLL_WAITING» = 27
+stateNo «ON_PLL_SET» = 28
+stateNo READY = 29
+stateNo «SLEEP_TRX_OFF» = 30
+stateNo SLEEP = 31
+stateNo «SLEEP_WAKE» = 32
+stateNo «TX_STATUS_PRECHECK1» = 33
+stateNo «TX_WRITING_FRAME» = 34
+stateNo «TX_WRITING_FRAME_DONE» = 35
+stateNo «TX_STATUS_PRECHECK2» = 36
+stateNo «TX_PLL_START» = 37
+stateNo «TX_PLL_WAIT» = 38
+stateNo «TX_ARET_ON» = 39
+stateNo «TX_TRANSMITTING» = 40
+stateNo «TX_READ_ACK» = 41
+stateNo «TX_DONE» = 42
+stateNo «TX_RETURN_TO_RX» = 43
+stateNo «TX_PENDING» = 44
+stateNo «CONFIG_SHORT0_SET» = 45
+stateNo «CONFIG_SHORT1_SET» = 46
+stateNo «CONFIG_PAN0_SET» = 47
+stateNo «CONFIG_PAN1_SET» = 48
+stateNo «CONFIG_IEEE0_SET» = 49
+stateNo «CONFIG_IEEE1_SET» = 50
+stateNo «CONFIG_IEEE2_SET» = 51
+stateNo «CONFIG_IEEE3_SET» = 52
+stateNo «CONFIG_IEEE4_SET» = 53
+stateNo «CONFIG_IEEE5_SET» = 54
+stateNo «CONFIG_IEEE6_SET» = 55
+stateNo «CONFIG_IEEE7_SET» = 56
+stateNo «CONFIG_POWER_SET» = 57
+stateNo «CONFIG_DONE» = 58
+stateNo RX = 59
+stateNo «RX_TURNING_OFF» = 60
+stateNo «RX_READY_TO_READ» = 61
+stateNo «RX_START_READING» = 62
+stateNo «RX_READING_FRAME_LEN» = 63
+stateNo «RX_READING_FRAME_LEN_DONE» = 64
+stateNo «RX_READING_FRAME» = 65
+stateNo «RX_READING_FRAME_DONE» = 66
+stateNo «RX_READING_FRAME_FCS_DONE» = 67
+stateNo «RX_ENABLING_RECEPTION» = 68
+
+-- the frame transfer that the state numbered n names: 1 a frame read (63, 65), 2 a frame write (34), 0 none
+abbrev pub stateFrame : ℕ → ℕ
+stateFrame n = cond (eqb n 34) 2 (cond (oneOf (63 ∷ 65 ∷ []) n) 1 0)

@@ -1,0 +1,96 @@
+// What a call answers: done, or one of document 01's refusals; and what a call yields beside the driver.
+use crate::action::Actions;
+use crate::action::no_actions;
+use crate::driver::Driver;
+use crate::transfer::Started;
+use crate::transfer::Transfer;
+use crate::transfer::no_transfer;
+ghost use mathlib.Core.Path.{_≡_};
+ghost use Rattle.rf233.specs.Answer.{answerNo, stepOf, refused};
+
+pub enum Answer {
+    Done,
+    Off,
+    Busy,
+    Size,
+    Long,
+    Inval,
+    Already,
+    Handle,
+    Held,
+    Short,
+    Full,
+    Idle,
+    Pool,
+    Arrived,
+    Configure,
+    New,
+}
+
+// What a call yields: its answer, the transfer that it started, its actions.
+pub struct Reply {
+    pub answer: Answer,
+    pub transfer: Transfer,
+    pub actions: Actions,
+}
+
+pub struct Outcome {
+    pub driver: Driver,
+    pub reply: Reply,
+}
+
+// Document 01's number of an answer: 0, or the refusal's.
+pub fn answer_number(answer: Answer) -> u8
+    ensures { λ r. ⌜ r ≡ answerNo answer ⌝ }
+{
+    match answer {
+        Answer::Done => 0,
+        Answer::Off => 1,
+        Answer::Busy => 2,
+        Answer::Size => 3,
+        Answer::Long => 4,
+        Answer::Inval => 5,
+        Answer::Already => 6,
+        Answer::Handle => 7,
+        Answer::Held => 8,
+        Answer::Short => 9,
+        Answer::Full => 10,
+        Answer::Idle => 11,
+        Answer::Pool => 12,
+        Answer::Arrived => 13,
+        Answer::Configure => 14,
+        Answer::New => 15,
+    }
+}
+
+// A step that was taken: what a starter left, and these actions.
+pub fn step_of(started: Started, actions: Actions) -> Outcome
+    ensures { λ r. ⌜ r ≡ stepOf started actions ⌝ }
+{
+    let driver = started.driver;
+    let transfer = started.transfer;
+    Outcome {
+        driver: driver,
+        reply: Reply {
+            answer: Answer::Done,
+            transfer: transfer,
+            actions: actions,
+        },
+    }
+}
+
+// A refusal: no transfer, no actions, the driver as it is given.
+pub fn refuse(answer: Answer, driver: Driver) -> Outcome
+    ensures { λ r. ⌜ r ≡ refused answer driver ⌝ }
+{
+    let none = no_transfer();
+    let silent = no_actions();
+    Outcome {
+        driver: driver,
+        reply: Reply {
+            answer: answer,
+            transfer: none,
+            actions: silent,
+        },
+    }
+}
