@@ -2,12 +2,12 @@
 // A step is the state that it leads to; `:FIRST.SECOND/LENGTH` is the transfer that it begins, its first byte, its second or n, and the
 // length of its read buffer; `+` a notice: p power, s sent with ack and code, r received with length and CRC, c config done, d dropped;
 // `!N.` before it a refusal.
-use rf233::create::new;
 use rf233::action::Action;
 use rf233::action::Actions;
 use rf233::action::Item;
 use rf233::answer::Outcome;
 use rf233::answer::answer_number;
+use rf233::create::new;
 use rf233::driver::Driver;
 use rf233::state::state_number;
 use rf233::transfer::Transfer;
@@ -108,7 +108,7 @@ struct Run {
     at: usize,
 }
 
-fn written(out: &mut [u8], at: usize, shown: bool, yielded: Outcome) -> usize {
+fn write_step(out: &mut [u8], at: usize, shown: bool, yielded: Outcome) -> usize {
     if shown {
         return token(out, at, yielded);
     }
@@ -118,7 +118,7 @@ fn written(out: &mut [u8], at: usize, shown: bool, yielded: Outcome) -> usize {
 fn step(run: Run, events: &[u8], shown: bool, out: &mut [u8], pool: &mut [u8]) -> Run {
     let before = run.driver;
     let yielded = make(before, events, pool);
-    let at = written(out, run.at, shown, yielded);
+    let at = write_step(out, run.at, shown, yielded);
     let driver = yielded.driver;
     Run {
         driver: driver,
@@ -127,8 +127,8 @@ fn step(run: Run, events: &[u8], shown: bool, out: &mut [u8], pool: &mut [u8]) -
 }
 
 // The events, one after another.
-fn steps(begun: Run, events: &[u8], shown: bool, out: &mut [u8], pool: &mut [u8]) -> Run {
-    let mut run = begun;
+fn steps(from: Run, events: &[u8], shown: bool, out: &mut [u8], pool: &mut [u8]) -> Run {
+    let mut run = from;
     let mut i = 0;
     while i < events.len() {
         run = step(run, &events[i..], shown, out, pool);
@@ -147,11 +147,11 @@ fn yielded(out: &mut [u8], at: usize, setup: &[u8], events: &[u8]) -> usize {
     let pool = &mut area[0..3040];
     let made = new(129, 26);
     let driver = made.driver;
-    let begun = Run {
+    let from = Run {
         driver: driver,
         at: at,
     };
-    let ready = steps(begun, setup, false, out, pool);
+    let ready = steps(from, setup, false, out, pool);
     let ended = steps(ready, events, true, out, pool);
     ended.at
 }

@@ -9,11 +9,44 @@ use native.Mathlib.Omega.{arith}
 use lib.Dec.{eqb}
 use lib.ListN.{length, getD, set}
 use Rattle.rf233.specs.Answer.{answerNo}
-use Rattle.custody.specs.Book.{Page, page, Fed, brought, endPlaces, ended, called, given, noted, notedAll, taken, begun, turnedDown, entered}
+use Rattle.custody.specs.Book.{
+  Page,
+  page,
+  Fed,
+  brought,
+  endPlaces,
+  ended,
+  called,
+  given,
+  noted,
+  notedAll,
+  taken,
+  begun,
+  turnedDown,
+  entered,
+}
 use Rattle.custody.specs.BookCode.{wrapped}
 use Rattle.custody.specs.Book.Fed.{lendsTransmit, lendsReceive, completes, other}
 use Rattle.rf233.specs.declared.action.Action.{Action}
-use Rattle.rf233.specs.declared.action.Action.the-variants.{Nothing, Power, Sent, Received, ConfigDone, Dropped, IrqMakeInput, IrqClear, IrqSetFloatingState, IrqEnableInterrupts, IrqDisableInterrupts, SleepMakeOutput, SleepSet, SleepClear, ResetMakeOutput, ResetClear, ResetSet}
+use Rattle.rf233.specs.declared.action.Action.the-variants.{
+  Nothing,
+  Power,
+  Sent,
+  Received,
+  ConfigDone,
+  Dropped,
+  IrqMakeInput,
+  IrqClear,
+  IrqSetFloatingState,
+  IrqEnableInterrupts,
+  IrqDisableInterrupts,
+  SleepMakeOutput,
+  SleepSet,
+  SleepClear,
+  ResetMakeOutput,
+  ResetClear,
+  ResetSet,
+}
 use Rattle.rf233.specs.declared.action.Item.{Item}
 use Rattle.rf233.specs.declared.answer.Reply.{Reply}
 

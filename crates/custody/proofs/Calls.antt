@@ -1,6 +1,6 @@
 -- Each call of demand 3 keeps the invariant of Custody.antt, refused or not. Assumes nothing.
 use mathlib.Core.Path.{_≡_, refl, sym, ap, subst, _∙_}
-use mathlib.Core.Bool.{Bool, true, false, not, _&&_, _||_, cond}
+use mathlib.Core.Bool.{Bool, true, false, not, _&&_, _||_, cond, and-false}
 use mathlib.Core.List.{List, [], _∷_}
 use Prim.Native.Nat.{ℕ, _+_, _≤_, _<_}
 use native.Mathlib.Omega.{arith}
@@ -8,23 +8,52 @@ use lib.Dec.{T, eqb, leb, ltb}
 use lib.IntN.{ℤ}
 use borrow.Author.Tests.{le-leb, leb-true, lt-leb, ltb-false, leb-false, not-true}
 use Rattle.rf233.specs.Action.{actions}
-use Rattle.rf233.specs.Answer.{answerNo, stepOf, quiet, refused}
+use Rattle.rf233.specs.Answer.{answerNo, answerOf, stepOf, quiet, refused}
 use Rattle.custody.specs.Book.{Page, Fed, called, entered, ended, begun, notedAll, turnedDown}
 use Rattle.custody.specs.Book.Fed.{completes, other, lendsTransmit, lendsReceive}
-use Rattle.rf233.specs.Calls.{Called, lent, started, startCall, stopped, stopCall, committing, commitCall, firedCall, completing, completionCall, resetCall, setPower, setChannel, handleBad, txBusy, rxFull, transmitting, transmitCall, receiveBufferCall}
-use Rattle.rf233.specs.Choice.{pick, oneOf}
+use Rattle.rf233.specs.Guard.{Called}
+use Rattle.rf233.specs.Data.{lent, handleBad, txBusy, rxFull, beginTransmit, transmitCall, receiveBufferCall}
+use Rattle.rf233.specs.Config.{beginStart, startCall, beginStop, stopCall, beginCommit, commitCall, resetCall, setPower, setChannel}
+use Rattle.rf233.specs.Kernel.{firedCall, completing, completionCall}
+use Rattle.rf233.specs.Choice.{pick, oneOf, within}
 use Rattle.custody.specs.Claim.{Call, kindOf, fed, yields}
-use Rattle.custody.specs.Claim.Call.{start, stop, commit, fire, query, complete, transmit, receiveBuffer, reset, address, pan, channel, addressLong, power, listener}
-use Rattle.rf233.specs.Completion.{has, back, frameDone, returned, completed, handleInterrupt, inNo}
-use Rattle.rf233.specs.Driver.{flag, flagged, inState, withBuffers}
-use Rattle.rf233.specs.Driver.Flag.{radioOn, sending, handling, irqPending, configPending, sleepPending, wakePending, hearing}
+use Rattle.custody.specs.Claim.Call.{
+  start,
+  stop,
+  commit,
+  fire,
+  query,
+  complete,
+  transmit,
+  receiveBuffer,
+  reset,
+  address,
+  pan,
+  channel,
+  addressLong,
+  power,
+  listener,
+}
+use Rattle.rf233.specs.Record.{isHeld, recordHas}
+use Rattle.rf233.specs.Completion.{buffersBack, frameDone, transferOver, completed}
+use Rattle.rf233.specs.Interrupt.{handleInterrupt}
+use Rattle.rf233.specs.Driver.{inNo, flag, flagged, withState, withBuffers}
+use Rattle.rf233.specs.Driver.Flag.{
+  radioOn,
+  transmitting,
+  interruptHandling,
+  interruptPending,
+  configPending,
+  sleepPending,
+  wakePending,
+  receiving,
+}
 use Rattle.rf233.specs.Record as rec
-use Rattle.rf233.specs.Record.{recordHas, within, txLengthBad, rxLengthBad, lengthBad, heldBesides, described, frameNo, frameUnfit, bufferMissing}
+use Rattle.rf233.specs.Described.{txLengthBad, rxLengthBad, lengthBad, heldBesides, described, frameNo, frameUnfit, bufferMissing}
 use Rattle.rf233.specs.State.{stateNo, stateFrame}
 use Rattle.rf233.specs.Transfer.{isIdle, refrains, registerTransfer}
 use Rattle.rf233.specs.declared.answer.Answer.{Answer}
-use Rattle.rf233.specs.declared.answer.Answer.the-variants.{Done, Off, Busy, Size, Long, Inval, Already, Handle, Short, Full, Pool, Configure}
-use Rattle.rf233.specs.declared.answer.Answer.the-variants as answers
+use Rattle.rf233.specs.declared.answer.Answer.the-variants.{Done}
 use Rattle.rf233.specs.declared.answer.Outcome.{Outcome}
 use Rattle.rf233.specs.declared.arrived.Arrived.{Arrived}
 use Rattle.rf233.specs.declared.driver.Buffers.{Buffers}
@@ -35,32 +64,50 @@ use Rattle.rf233.specs.declared.driver.Under.{Under}
 use Rattle.rf233.specs.declared.driver.Under.the-variants.{Idle, Register, FrameRead, FrameWrite}
 use Rattle.rf233.specs.declared.state.InternalState.{InternalState}
 use Rattle.rf233.specs.declared.state.InternalState.the-variants.{«SLEEP_WAKE», «SLEEP_TRX_OFF», «CONFIG_SHORT0_SET», «TX_STATUS_PRECHECK1»}
+use Rattle.laws.proofs.Logic.{left, right, pair, is-true, is-false, both-left, both-right, nor-left, nor-right}
+use Rattle.rf233.proofs.ChoiceLaws.{branch, either}
 use Rattle.rf233.proofs.Accepted.{IsDone, done-handle, done-completed}
 use Rattle.custody.proofs.Custody.{Inv, After, Fits, Lengths, register-refrains, under-idle}
 use Rattle.custody.proofs.Engine.{asks, rest-handles, ready-keeps, result-keeps}
-use Rattle.rf233.proofs.Fit.{Kind, kind, fit, joins, frameOf, doneNo, return-fits, rx-empty, tx-empty, fit-frame, fit-places, join-same, join-32, join-30, join-45, join-33, unsent, tx-fits, rx-fits}
+use Rattle.rf233.proofs.Fit.{
+  Kind,
+  kind,
+  fit,
+  joins,
+  frameOf,
+  doneNo,
+  done-no,
+  return-fits,
+  rx-empty,
+  tx-empty,
+  fit-frame,
+  fit-places,
+  join-same,
+  join-32,
+  join-30,
+  join-45,
+  join-33,
+  unsent,
+  tx-fits,
+  rx-fits,
+}
 use Rattle.rf233.proofs.Fit.Kind.{nothing, access, reading, writing}
-use Rattle.rf233.proofs.Logic.{branch, either, left, right, pair, is-true, is-false}
 use Rattle.custody.specs.Ranges.{transferFits, actionsFit, replyFits}
 use Rattle.custody.proofs.Match.{Match, ends, refuses, lends-tx, lends-rx, once, somewhere}
-use Rattle.rf233.proofs.Sound.{both-left, both-right}
 
 -- ---- refusal 12 describes no driver that meets the invariant
 
 -- no buffer is held beside another of its kind under way
-besides-none : (b : Buffers) (n : ℕ) (s h : Bool) → T (fit (kind (b .under)) n (has (b .«tx_buf»)) (has (b .«rx_buf»)) s h) → heldBesides b ≡ false
+besides-none : (b : Buffers) (n : ℕ) (s h : Bool) → T (fit (kind (b .under)) n (isHeld (b .«tx_buf»)) (isHeld (b .«rx_buf»)) s h)
+    → heldBesides b ≡ false
 besides-none b n s h o = go (b .under) o
   where
-    and-false : (x : Bool) → x && false ≡ false
-    and-false true = refl
-    and-false false = refl
-
-    go : (u : Under) → T (fit (kind u) n (has (b .«tx_buf»)) (has (b .«rx_buf»)) s h)
-        → ((has (b .«tx_buf») && has (rec.sending u)) || (has (b .«rx_buf») && has (rec.receiving u))) ≡ false
-    go Idle o = rw (and-false (has (b .«tx_buf»)), and-false (has (b .«rx_buf»)))
-    go Register o = rw (and-false (has (b .«tx_buf»)), and-false (has (b .«rx_buf»)))
-    go (FrameRead c l) o = rw (and-false (has (b .«tx_buf»)), is-false (has (b .«rx_buf»)) (rx-empty .gives reading _ _ _ _ _ o tt))
-    go (FrameWrite c l) o = rw (and-false (has (b .«rx_buf»)), is-false (has (b .«tx_buf»)) (tx-empty .gives writing _ _ _ _ _ o tt))
+    go : (u : Under) → T (fit (kind u) n (isHeld (b .«tx_buf»)) (isHeld (b .«rx_buf»)) s h)
+        → ((isHeld (b .«tx_buf») && isHeld (rec.txUnderWay u)) || (isHeld (b .«rx_buf») && isHeld (rec.rxUnderWay u))) ≡ false
+    go Idle o = rw (and-false (isHeld (b .«tx_buf»)), and-false (isHeld (b .«rx_buf»)))
+    go Register o = rw (and-false (isHeld (b .«tx_buf»)), and-false (isHeld (b .«rx_buf»)))
+    go (FrameRead c l) o = rw (and-false (isHeld (b .«tx_buf»)), is-false (isHeld (b .«rx_buf»)) (rx-empty .gives reading _ _ _ _ _ o tt))
+    go (FrameWrite c l) o = rw (and-false (isHeld (b .«rx_buf»)), is-false (isHeld (b .«tx_buf»)) (tx-empty .gives writing _ _ _ _ _ o tt))
 
 lengths-good : (b : Buffers) → Lengths b → lengthBad b ≡ false
 lengths-good b g = rw (g .whole, g .present, g .tx, g .tx-under, g .rx, g .rx-under)
@@ -100,54 +147,65 @@ busy-handles k d v i = rw i (record { inv = record { match = v .match; fitted = 
 
 -- ---- a completion
 
-done-no : (h : Bool) (s : InternalState) → stateNo (frameDone h s) ≡ doneNo h (stateNo s)
-unfolding frameDone pick
-done-no true s = refl
-done-no false s = go (eqb (stateNo s) 34) (eqb (stateNo s) 63) (eqb (stateNo s) 65) refl refl refl
-  where
-    go : (x y z : Bool) → eqb (stateNo s) 34 ≡ x → eqb (stateNo s) 63 ≡ y → eqb (stateNo s) 65 ≡ z → stateNo (frameDone false s) ≡ doneNo false (stateNo s)
-    go true y z p q r = rw p
-    go false true z p q r = rw (p, q)
-    go false false true p q r = rw (p, q, r)
-    go false false false p q r = rw (p, q, r)
-
-lengths-back : (b : Buffers) → Lengths b → Lengths (back (b .under) b)
+lengths-back : (b : Buffers) → Lengths b → Lengths (buffersBack (b .under) b)
 lengths-back b g = go (b .under) refl
   where
-    go : (u : Under) → b .under ≡ u → Lengths (back u b)
+    go : (u : Under) → b .under ≡ u → Lengths (buffersBack u b)
     go Idle e = g
     go Register e = record { whole = g .whole; present = g .present; tx = g .tx; tx-under = refl; rx = g .rx; rx-under = refl }
-    go (FrameRead c l) e = record { whole = g .whole; present = g .present; tx = g .tx; tx-under = refl; rx = ap (λ x. rxLengthBad (rec.receiving x)) (sym e) ∙ g .rx-under; rx-under = refl }
-    go (FrameWrite c l) e = record { whole = g .whole; present = g .present; tx = ap (λ x. txLengthBad (rec.sending x) (b .«tx_len»)) (sym e) ∙ g .tx-under; tx-under = refl; rx = g .rx; rx-under = refl }
+    go (FrameRead c l) e =
+        record {
+          whole = g .whole;
+          present = g .present;
+          tx = g .tx;
+          tx-under = refl;
+          rx = ap (λ x. rxLengthBad (rec.rxUnderWay x)) (sym e)
+              ∙ g .rx-under;
+          rx-under = refl;
+        }
+    go (FrameWrite c l) e =
+        record {
+          whole = g .whole;
+          present = g .present;
+          tx = ap (λ x. txLengthBad (rec.txUnderWay x) (b .«tx_len»)) (sym e) ∙ g .tx-under;
+          tx-under = refl;
+          rx = g .rx;
+          rx-under = refl;
+        }
 
 -- what is under way once the buffers are back: nothing, and each place is as full as `return-fits` has it
-back-fits : (b : Buffers) (n : ℕ) (s h : Bool) → isIdle (b .under) ≡ false → T (fit (kind (b .under)) n (has (b .«tx_buf»)) (has (b .«rx_buf»)) s h)
-    → T (fit (kind (back (b .under) b .under)) (doneNo h n) (has (back (b .under) b .«tx_buf»)) (has (back (b .under) b .«rx_buf»)) s false)
+back-fits : (b : Buffers) (n : ℕ) (s h : Bool) → isIdle (b .under) ≡ false
+    → T (fit (kind (b .under)) n (isHeld (b .«tx_buf»)) (isHeld (b .«rx_buf»)) s h)
+    → T (fit (kind (buffersBack (b .under) b .under)) (doneNo h n) (isHeld (buffersBack (b .under) b .«tx_buf»))
+    (isHeld (buffersBack (b .under) b .«rx_buf»)) s false)
 back-fits b n s h i o = go (b .under) i o
   where
-    go : (u : Under) → isIdle u ≡ false → T (fit (kind u) n (has (b .«tx_buf»)) (has (b .«rx_buf»)) s h)
-        → T (fit (kind (back u b .under)) (doneNo h n) (has (back u b .«tx_buf»)) (has (back u b .«rx_buf»)) s false)
+    go : (u : Under) → isIdle u ≡ false → T (fit (kind u) n (isHeld (b .«tx_buf»)) (isHeld (b .«rx_buf»)) s h)
+        → T (fit (kind (buffersBack u b .under)) (doneNo h n) (isHeld (buffersBack u b .«tx_buf»)) (isHeld (buffersBack u b .«rx_buf»)) s
+        false)
     go Idle i o = absurd (subst T i tt)
     go Register i o = return-fits .gives access _ _ _ _ _ o tt
     go (FrameRead c l) i o = return-fits .gives reading _ _ _ _ _ o tt
     go (FrameWrite c l) i o = return-fits .gives writing _ _ _ _ _ o tt
 
-back-idle : (b : Buffers) → isIdle (b .under) ≡ false → isIdle (back (b .under) b .under) ≡ true
+back-idle : (b : Buffers) → isIdle (b .under) ≡ false → isIdle (buffersBack (b .under) b .under) ≡ true
 back-idle b i = go (b .under) i
   where
-    go : (u : Under) → isIdle u ≡ false → isIdle (back u b .under) ≡ true
+    go : (u : Under) → isIdle u ≡ false → isIdle (buffersBack u b .under) ≡ true
     go Idle i = absurd (subst T i tt)
     go Register i = refl
     go (FrameRead c l) i = refl
     go (FrameWrite c l) i = refl
 
-returned-keeps : (k : Page) (d : Driver) → Inv k d → isIdle (d .buffers .under) ≡ false → Inv (ended k) (returned d)
+returned-keeps : (k : Page) (d : Driver) → Inv k d → isIdle (d .buffers .under) ≡ false → Inv (ended k) (transferOver d)
 returned-keeps k d v i =
     record {
       match = ends (d .buffers) k (v .match) i (besides-none (d .buffers) _ _ _ (v .fitted));
       fitted =
-          subst (λ n. T (fit (kind (back (d .buffers .under) (d .buffers) .under)) n (has (back (d .buffers .under) (d .buffers) .«tx_buf»)) (has (back (d .buffers .under) (d .buffers) .«rx_buf»)) (flag sending (d .flags)) false))
-          (sym (done-no (flag handling (d .flags)) (d .state))) (back-fits (d .buffers) _ _ _ i (v .fitted));
+          subst (λ n. T (fit (kind (buffersBack (d .buffers .under) (d .buffers) .under)) n
+          (isHeld (buffersBack (d .buffers .under) (d .buffers) .«tx_buf»))
+          (isHeld (buffersBack (d .buffers .under) (d .buffers) .«rx_buf»)) (flag transmitting (d .flags)) false))
+          (sym (done-no (flag interruptHandling (d .flags)) (d .state))) (back-fits (d .buffers) _ _ _ i (v .fitted));
       lengths = lengths-back (d .buffers) (v .lengths);
     }
 
@@ -155,8 +213,8 @@ completed-keeps : (k : Page) (a : Arrived) (d : Driver) → Inv k d → isIdle (
 unfolding completed
 completed-keeps k a d v i =
     branch (After (ended k)) _ _ _
-    (λ y. result-keeps (ended k) a (returned d) (returned-keeps k d v i) (back-idle (d .buffers) i))
-    (λ y. ready-keeps (ended k) a (returned d) (returned-keeps k d v i) (back-idle (d .buffers) i))
+    (λ y. result-keeps (ended k) a (transferOver d) (returned-keeps k d v i) (back-idle (d .buffers) i))
+    (λ y. ready-keeps (ended k) a (transferOver d) (returned-keeps k d v i) (back-idle (d .buffers) i))
 
 -- ---- whatever is under way
 
@@ -172,26 +230,39 @@ joins-idle u i = ap (λ x. joins (kind x)) (under-idle u i)
 
 -- the invariant of a driver that differs in state and flags
 others : (k : Page) (d e : Driver) → Inv k d → e .buffers ≡ d .buffers
-    → T (fit (kind (d .buffers .under)) (stateNo (e .state)) (has (d .buffers .«tx_buf»)) (has (d .buffers .«rx_buf»)) (flag sending (e .flags)) (flag handling (e .flags)))
+    → T (fit (kind (d .buffers .under)) (stateNo (e .state)) (isHeld (d .buffers .«tx_buf»)) (isHeld (d .buffers .«rx_buf»))
+    (flag transmitting (e .flags)) (flag interruptHandling (e .flags)))
     → Inv k e
 others k d e v q o =
     record {
       match = subst (λ b. Match b k) (sym q) (v .match);
-      fitted = subst (λ b. T (fit (kind (b .under)) (stateNo (e .state)) (has (b .«tx_buf»)) (has (b .«rx_buf»)) (flag sending (e .flags)) (flag handling (e .flags)))) (sym q) o;
+      fitted =
+          subst (λ b. T (fit (kind (b .under)) (stateNo (e .state)) (isHeld (b .«tx_buf»)) (isHeld (b .«rx_buf»))
+          (flag transmitting (e .flags)) (flag interruptHandling (e .flags)))) (sym q) o;
       lengths = subst Lengths (sym q) (v .lengths);
     }
 
 -- a register transfer is asked for
 asks-any : (k : Page) (d : Driver) → Inv k d → (e : Driver) → e .buffers ≡ d .buffers → (n x y : ℕ) → kindOf n ≡ 1 → eqb n 0 ≡ false
-    → T (fit (joins (kind (d .buffers .under))) (stateNo (e .state)) (has (d .buffers .«tx_buf»)) (has (d .buffers .«rx_buf»)) (flag sending (e .flags)) (flag handling (e .flags)))
+    → T (fit (joins (kind (d .buffers .under))) (stateNo (e .state)) (isHeld (d .buffers .«tx_buf»)) (isHeld (d .buffers .«rx_buf»))
+    (flag transmitting (e .flags)) (flag interruptHandling (e .flags)))
     → After k (stepOf (registerTransfer n x y e) (actions []))
 asks-any k d v e q n x y z w o = go (isIdle (d .buffers .under)) refl
   where
     go : (t : Bool) → isIdle (d .buffers .under) ≡ t → After k (stepOf (registerTransfer n x y e) (actions []))
-    go true i = asks k d v i e q n x y z w (subst (λ c. T (fit c (stateNo (e .state)) (has (d .buffers .«tx_buf»)) (has (d .buffers .«rx_buf»)) (flag sending (e .flags)) (flag handling (e .flags)))) (joins-idle (d .buffers .under) i) o)
+    go true i =
+        asks k d v i e q n x y z w (subst
+        (λ c. T (fit c (stateNo (e .state)) (isHeld (d .buffers .«tx_buf»)) (isHeld (d .buffers .«rx_buf»)) (flag transmitting (e .flags))
+        (flag interruptHandling (e .flags)))) (joins-idle (d .buffers .under) i) o)
     go false i =
         subst (λ st. After k (stepOf st (actions []))) (sym (register-refrains e n x y (ap (λ b. isIdle (b .under)) q ∙ i)))
-        (record { inv = others k d e v q (subst (λ c. T (fit c (stateNo (e .state)) (has (d .buffers .«tx_buf»)) (has (d .buffers .«rx_buf»)) (flag sending (e .flags)) (flag handling (e .flags)))) (joins-busy (d .buffers .under) i) o); spans = tt; shows = tt })
+        (record {
+          inv = others k d e v q
+              (subst (λ c. T (fit c (stateNo (e .state)) (isHeld (d .buffers .«tx_buf»)) (isHeld (d .buffers .«rx_buf»))
+              (flag transmitting (e .flags)) (flag interruptHandling (e .flags)))) (joins-busy (d .buffers .under) i) o);
+          spans = tt;
+          shows = tt;
+        })
 
 -- a firing
 fires-any : (k : Page) (d : Driver) → Inv k d → After k (handleInterrupt d)
@@ -221,146 +292,153 @@ took f k o e w =
 abbrev refusal : Answer → Bool
 refusal x = not (eqb (answerNo x) 0) && leb (answerNo x) 14
 
--- a refusal, from a driver that differs from d in flags at most
-turned : (f : Fed) (k : Page) (x : Answer) (d : Driver) → refusal x ≡ true → Inv k d → Entered f k (refused x d)
+-- the refusal of a number, from a driver that differs from d in flags at most
+turned : (f : Fed) (k : Page) (n : ℕ) (d : Driver) → refusal (answerOf n) ≡ true → Inv k d → Entered f k (refused n d)
 unfolding entered
-turned f k x d e v =
+turned f k n d e v =
+    let x = answerOf n in
     let none = not-true (eqb (answerNo x) 0) (both-left (not (eqb (answerNo x) 0)) _ e) in
     record {
-      inv = rw none (record { match = refuses (d .buffers) k (v .match) (refused x d .reply) refl refl; fitted = v .fitted; lengths = v .lengths });
+      inv =
+          rw none (record {
+            match = refuses (d .buffers) k (v .match) (refused n d .reply) refl refl;
+            fitted = v .fitted;
+            lengths = v .lengths;
+          });
       fits = rw (both-right (not (eqb (answerNo x) 0)) (leb (answerNo x) 14) e) tt;
     }
 
 -- a step that starts nothing and hands nothing back
 stays : (k : Page) (d e : Driver) → Inv k d → e .buffers ≡ d .buffers
-    → T (fit (kind (d .buffers .under)) (stateNo (e .state)) (has (d .buffers .«tx_buf»)) (has (d .buffers .«rx_buf»)) (flag sending (e .flags)) (flag handling (e .flags)))
+    → T (fit (kind (d .buffers .under)) (stateNo (e .state)) (isHeld (d .buffers .«tx_buf»)) (isHeld (d .buffers .«rx_buf»))
+    (flag transmitting (e .flags)) (flag interruptHandling (e .flags)))
     → After k (quiet e (actions []))
 stays k d e v q o = record { inv = others k d e v q o; spans = tt; shows = tt }
 
 -- the place that a frame transfer's buffer came from
-sent-is : (u : Under) → has (rec.sending u) ≡ eqb (frameOf (kind u)) 2
+sent-is : (u : Under) → isHeld (rec.txUnderWay u) ≡ eqb (frameOf (kind u)) 2
 sent-is Idle = refl
 sent-is Register = refl
 sent-is (FrameRead c l) = refl
 sent-is (FrameWrite c l) = refl
 
-received-is : (u : Under) → has (rec.receiving u) ≡ eqb (frameOf (kind u)) 1
+received-is : (u : Under) → isHeld (rec.rxUnderWay u) ≡ eqb (frameOf (kind u)) 1
 received-is Idle = refl
 received-is Register = refl
 received-is (FrameRead c l) = refl
 received-is (FrameWrite c l) = refl
 
-no-slot : (s : Slot) → has s ≡ false → s ≡ Empty
+no-slot : (s : Slot) → isHeld s ≡ false → s ≡ Empty
 no-slot Empty e = refl
 no-slot (Held c l) e = absurd (subst T e tt)
-
-nor-left : (a b : Bool) → T (not (a || b)) → T (not a)
-nor-left true b t = t
-nor-left false b t = tt
-
-nor-right : (a b : Bool) → T (not (a || b)) → T (not b)
-nor-right true b t = absurd t
-nor-right false b t = t
 
 module _ (k : Page) (d : Driver) (v : Inv k d) where
   abbrev Yields : Fed → Called → Type 0
   Yields f c = Entered f k (c .outcome)
 
-  done-started : (e : Driver) → IsDone (started e)
-  unfolding started
+  done-started : (e : Driver) → IsDone (beginStart e)
+  unfolding beginStart
   done-started e = either IsDone _ _ _ refl refl
 
-  started-keeps : After k (started (flagged sleepPending false d))
-  unfolding started
+  started-keeps : After k (beginStart (flagged sleepPending false d))
+  unfolding beginStart
   started-keeps =
       let e = flagged sleepPending false d in
       branch (After k) _ _ _
-      (λ y. asks-any k d v (inState «SLEEP_WAKE» e) refl 1 _ _ refl refl (join-32 .gives _ _ _ _ _ _ (v .fitted) y))
+      (λ y. asks-any k d v (withState «SLEEP_WAKE» e) refl 1 _ _ refl refl (join-32 .gives _ _ _ _ _ _ (v .fitted) y))
       (λ y. asks-any k d v (flagged wakePending true e) refl 1 _ _ refl refl (join-same .gives _ _ _ _ _ _ (v .fitted) tt))
 
   start-keeps : (p : List ℕ) → Yields other (startCall d p)
   unfolding startCall
   start-keeps p =
       let e = flagged sleepPending false d in
-      branch (Yields other) _ _ _ (λ y. turned other k Pool d refl v)
+      branch (Yields other) _ _ _ (λ y. turned other k 12 d refl v)
       (λ y. branch (Yields other) _ _ _
-      (λ z. took other k (started e) (done-started e) started-keeps)
-      (λ z. turned other k Already e refl (others k d e v refl (v .fitted))))
+      (λ z. took other k (beginStart e) (done-started e) started-keeps)
+      (λ z. turned other k 6 e refl (others k d e v refl (v .fitted))))
 
-  done-stopped : IsDone (stopped d)
-  unfolding stopped
+  done-stopped : IsDone (beginStop d)
+  unfolding beginStop
   done-stopped = either IsDone _ _ _ refl refl
 
-  stopped-keeps : After k (stopped d)
-  unfolding stopped
+  stopped-keeps : After k (beginStop d)
+  unfolding beginStop
   stopped-keeps =
       branch (After k) _ _ _
-      (λ y. asks-any k d v (inState «SLEEP_TRX_OFF» (flagged radioOn false d)) refl 2 _ _ refl refl (join-30 .gives _ _ _ _ _ _ (v .fitted) y))
+      (λ y. asks-any k d v (withState «SLEEP_TRX_OFF» (flagged radioOn false d)) refl 2 _ _ refl refl
+      (join-30 .gives _ _ _ _ _ _ (v .fitted) y))
       (λ y. stays k d (flagged sleepPending true d) v refl (v .fitted))
 
   stop-keeps : (p : List ℕ) → Yields other (stopCall d p)
   unfolding stopCall
   stop-keeps p =
-      branch (Yields other) _ _ _ (λ y. turned other k Pool d refl v)
-      (λ y. branch (Yields other) _ _ _ (λ z. turned other k Already d refl v)
-      (λ z. took other k (stopped d) done-stopped stopped-keeps))
+      branch (Yields other) _ _ _ (λ y. turned other k 12 d refl v)
+      (λ y. branch (Yields other) _ _ _ (λ z. turned other k 6 d refl v)
+      (λ z. took other k (beginStop d) done-stopped stopped-keeps))
 
-  done-committing : IsDone (committing d)
-  unfolding committing
+  done-committing : IsDone (beginCommit d)
+  unfolding beginCommit
   done-committing = either IsDone _ _ _ refl (either IsDone _ _ _ refl refl)
 
-  committing-keeps : After k (committing d)
-  unfolding committing
+  committing-keeps : After k (beginCommit d)
+  unfolding beginCommit
   committing-keeps =
       let e = flagged configPending true d in
       branch (After k) _ _ _ (λ y. stays k d d v refl (v .fitted))
       (λ y. branch (After k) _ _ _
-      (λ z. asks-any k d v (inState «CONFIG_SHORT0_SET» e) refl 2 _ _ refl refl (join-45 .gives _ _ _ _ _ _ (v .fitted) z))
+      (λ z. asks-any k d v (withState «CONFIG_SHORT0_SET» e) refl 2 _ _ refl refl (join-45 .gives _ _ _ _ _ _ (v .fitted) z))
       (λ z. stays k d e v refl (v .fitted)))
 
   commit-keeps : (p : List ℕ) → Yields other (commitCall d p)
   unfolding commitCall
   commit-keeps p =
-      branch (Yields other) _ _ _ (λ y. turned other k Pool d refl v) (λ y. took other k (committing d) done-committing committing-keeps)
+      branch (Yields other) _ _ _ (λ y. turned other k 12 d refl v) (λ y. took other k (beginCommit d) done-committing committing-keeps)
 
   fire-keeps : (p : List ℕ) → Yields other (firedCall d p)
   unfolding firedCall
   fire-keeps p =
-      branch (Yields other) _ _ _ (λ y. turned other k Pool d refl v) (λ y. took other k (handleInterrupt d) (done-handle d) (fires-any k d v))
+      branch (Yields other) _ _ _ (λ y. turned other k 12 d refl v)
+      (λ y. took other k (handleInterrupt d) (done-handle d) (fires-any k d v))
 
   completion-keeps : (xs p : List ℕ) → Yields completes (completionCall d xs p)
   unfolding completionCall completing
   completion-keeps xs p =
-      branch (Yields completes) _ _ _ (λ y. turned completes k Pool d refl v)
-      (λ y. branch (Yields completes) _ _ _ (λ z. turned completes k answers.Idle d refl v)
-      (λ z. branch (Yields completes) _ _ _ (λ w. turned completes k answers.Arrived d refl v)
+      branch (Yields completes) _ _ _ (λ y. turned completes k 12 d refl v)
+      (λ y. branch (Yields completes) _ _ _ (λ z. turned completes k 11 d refl v)
+      (λ z. branch (Yields completes) _ _ _ (λ w. turned completes k 13 d refl v)
       (λ w. took completes k (completed _ d) (done-completed _ d) (completed-keeps k _ d v (is-false (isIdle (d .buffers .under)) z)))))
 
   reset-keeps : (b : Bool) → Entered other k (resetCall d b)
   unfolding resetCall
   reset-keeps b =
       branch (Entered other k) _ _ _
-      (λ y. took other k _ refl (record { inv = others k d (flagged sending false d) v refl (unsent .gives _ _ _ _ _ _ (v .fitted) tt); spans = tt; shows = tt }))
-      (λ y. turned other k Configure d refl v)
+      (λ y. took other k _ refl (record
+      { inv = others k d (flagged transmitting false d) v refl (unsent .gives _ _ _ _ _ _ (v .fitted) tt); spans = tt; shows = tt }))
+      (λ y. turned other k 14 d refl v)
 
-  setting-keeps : (e : Driver) → e .buffers ≡ d .buffers → e .state ≡ d .state → e .flags ≡ d .flags → Entered other k (quiet e (actions []))
+  setting-keeps : (e : Driver) → e .buffers ≡ d .buffers → e .state ≡ d .state → e .flags ≡ d .flags
+      → Entered other k (quiet e (actions []))
   setting-keeps e q s f =
       took other k (quiet e (actions [])) refl
-      (stays k d e v q (subst (λ x. T (fit (kind (d .buffers .under)) (stateNo x) (has (d .buffers .«tx_buf»)) (has (d .buffers .«rx_buf»)) (flag sending (e .flags)) (flag handling (e .flags)))) (sym s)
-      (subst (λ x. T (fit (kind (d .buffers .under)) (stateNo (d .state)) (has (d .buffers .«tx_buf»)) (has (d .buffers .«rx_buf»)) (flag sending x) (flag handling x))) (sym f) (v .fitted))))
+      (stays k d e v q (subst (λ x. T
+      (fit (kind (d .buffers .under)) (stateNo x) (isHeld (d .buffers .«tx_buf»)) (isHeld (d .buffers .«rx_buf»))
+      (flag transmitting (e .flags)) (flag interruptHandling (e .flags)))) (sym s)
+      (subst (λ x. T (fit (kind (d .buffers .under)) (stateNo (d .state)) (isHeld (d .buffers .«tx_buf»)) (isHeld (d .buffers .«rx_buf»))
+      (flag transmitting x) (flag interruptHandling x))) (sym f) (v .fitted))))
 
   power-keeps : (t : ℤ) → Entered other k (setPower d t)
   unfolding setPower
-  power-keeps t = branch (Entered other k) _ _ _ (λ y. setting-keeps _ refl refl refl) (λ y. turned other k Inval d refl v)
+  power-keeps t = branch (Entered other k) _ _ _ (λ y. setting-keeps _ refl refl refl) (λ y. turned other k 5 d refl v)
 
   channel-keeps : (c : ℕ) → Entered other k (setChannel d c)
   unfolding setChannel
-  channel-keeps c = branch (Entered other k) _ _ _ (λ y. setting-keeps _ refl refl refl) (λ y. turned other k Inval d refl v)
+  channel-keeps c = branch (Entered other k) _ _ _ (λ y. setting-keeps _ refl refl refl) (λ y. turned other k 5 d refl v)
 
   -- ---- lending
 
   -- the lengths with a transmit buffer taken in: none was there, and 3, 4 and 7 did not refuse it
-  lengths-sent : (b l n : ℕ) → T (not (ltb 160 l)) → T (not (leb l (n + 4))) → T (not (ltb 125 n)) → has (rec.sending (d .buffers .under)) ≡ false
+  lengths-sent : (b l n : ℕ) → T (not (ltb 160 l)) → T (not (leb l (n + 4))) → T (not (ltb 125 n))
+      → isHeld (rec.txUnderWay (d .buffers .under)) ≡ false
       → Lengths (lent (Held b l) (d .buffers .«rx_buf») (n + 2) (d .buffers))
   lengths-sent b l n h s m e =
       let g = v .lengths in
@@ -370,13 +448,20 @@ module _ (k : Page) (d : Driver) (v : Inv k d) where
       record {
         whole = g .whole;
         present = g .present;
-        tx = rw (le-leb 2 (n + 2) (omega arith), le-leb (n + 2) 127 (omega arith), le-leb (n + 2 + 3) l (omega arith), le-leb l 160 (omega arith));
-        tx-under = ap (λ x. txLengthBad x (n + 2)) (no-slot (rec.sending (d .buffers .under)) e);
+        tx =
+            rw (
+              le-leb 2 (n + 2) (omega arith),
+              le-leb (n + 2) 127 (omega arith),
+              le-leb (n + 2 + 3) l (omega arith),
+              le-leb l 160 (omega arith),
+            );
+        tx-under = ap (λ x. txLengthBad x (n + 2)) (no-slot (rec.txUnderWay (d .buffers .under)) e);
         rx = g .rx;
         rx-under = g .rx-under;
       }
 
-  lengths-received : (b l : ℕ) → T (not (ltb 160 l)) → T (not (ltb l 129)) → Lengths (lent (d .buffers .«tx_buf») (Held b l) (d .buffers .«tx_len») (d .buffers))
+  lengths-received : (b l : ℕ) → T (not (ltb 160 l)) → T (not (ltb l 129))
+      → Lengths (lent (d .buffers .«tx_buf») (Held b l) (d .buffers .«tx_len») (d .buffers))
   lengths-received b l h s =
       let g = v .lengths in
       let most = ltb-false 160 l (is-false (ltb 160 l) h) in
@@ -390,60 +475,66 @@ module _ (k : Page) (d : Driver) (v : Inv k d) where
         rx-under = g .rx-under;
       }
 
-  done-transmitting : (b l n : ℕ) → IsDone (transmitting d b l n)
-  unfolding transmitting
+  done-transmitting : (b l n : ℕ) → IsDone (beginTransmit d b l n)
+  unfolding beginTransmit
   done-transmitting b l n = either IsDone _ _ _ refl refl
 
   -- a transmit buffer is taken in, and where the driver is ready the send begins
-  transmitting-keeps : (b l n : ℕ) → T (not (handleBad b l)) → T (not (txBusy d)) → T (not (leb l (n + 4))) → T (not (ltb 125 n)) → T (not (recordHas (d .buffers) b))
-      → After (called (lendsTransmit b) k) (transmitting d b l n)
-  unfolding transmitting
+  transmitting-keeps : (b l n : ℕ) → T (not (handleBad b l)) → T (not (txBusy d)) → T (not (leb l (n + 4))) → T (not (ltb 125 n))
+      → T (not (recordHas (d .buffers) b))
+      → After (called (lendsTransmit b) k) (beginTransmit d b l n)
+  unfolding beginTransmit
   transmitting-keeps b l n h y s m r =
-      let t = has (d .buffers .«tx_buf») in
+      let t = isHeld (d .buffers .«tx_buf») in
       let u = d .buffers .under in
-      let e = flagged sending true (withBuffers (lent (Held b l) (d .buffers .«rx_buf») (n + 2) (d .buffers)) d) in
+      let e = flagged transmitting true (withBuffers (lent (Held b l) (d .buffers .«rx_buf») (n + 2) (d .buffers)) d) in
       let none = is-false t (nor-left t _ y) in
-      let sends = nor-left (has (rec.sending u)) (flag sending (d .flags)) (nor-right t _ y) in
-      let free : T (not (t || (eqb (frameOf (kind u)) 2 || flag sending (d .flags)))) = subst (λ x. T (not (t || (x || flag sending (d .flags))))) (sent-is u) y in
+      let sends = nor-left (isHeld (rec.txUnderWay u)) (flag transmitting (d .flags)) (nor-right t _ y) in
+      let free : T (not (t || (eqb (frameOf (kind u)) 2 || flag transmitting (d .flags)))) = subst
+      (λ x. T (not (t || (x || flag transmitting (d .flags))))) (sent-is u) y in
       let low = ltb-false 15 b (is-false (ltb 15 b) (nor-left (ltb 15 b) (ltb 160 l) h)) in
       let w : Inv (called (lendsTransmit b) k) e =
       record {
         match = lends-tx (d .buffers) k (v .match) b l (n + 2) (omega arith) none (is-false (recordHas (d .buffers) b) r);
         fitted = tx-fits .gives _ _ _ _ _ _ (v .fitted) free;
-        lengths = lengths-sent b l n (nor-right (ltb 15 b) (ltb 160 l) h) s m (is-false (has (rec.sending u)) sends);
+        lengths = lengths-sent b l n (nor-right (ltb 15 b) (ltb 160 l) h) s m (is-false (isHeld (rec.txUnderWay u)) sends);
       } in
       branch (After (called (lendsTransmit b) k)) _ _ _
-      (λ z. asks-any _ e w (inState «TX_STATUS_PRECHECK1» e) refl 1 _ _ refl refl
-      (join-33 .gives _ _ _ _ _ _ (v .fitted) (pair (not (t || (eqb (frameOf (kind u)) 2 || flag sending (d .flags)))) (eqb (stateNo (d .state)) 29) free (right (not (flag hearing (d .flags))) (eqb (stateNo (d .state)) 29) z))))
+      (λ z. asks-any _ e w (withState «TX_STATUS_PRECHECK1» e) refl 1 _ _ refl refl
+      (join-33 .gives _ _ _ _ _ _ (v .fitted)
+      (pair (not (t || (eqb (frameOf (kind u)) 2 || flag transmitting (d .flags)))) (eqb (stateNo (d .state)) 29) free
+      (right (not (flag receiving (d .flags))) (eqb (stateNo (d .state)) 29) z))))
       (λ z. record { inv = w; spans = tt; shows = tt })
 
   transmit-keeps : (b l n : ℕ) (p : List ℕ) → Yields (lendsTransmit b) (transmitCall d b l n p)
   unfolding transmitCall
   transmit-keeps b l n p =
       let f = lendsTransmit b in
-      branch (Yields f) _ _ _ (λ x. turned f k Pool d refl v)
-      (λ x. branch (Yields f) _ _ _ (λ y. turned f k Handle d refl v)
-      (λ h. branch (Yields f) _ _ _ (λ y. turned f k Off d refl v)
-      (λ o. branch (Yields f) _ _ _ (λ y. turned f k Busy d refl v)
-      (λ y. branch (Yields f) _ _ _ (λ z. turned f k Size d refl v)
-      (λ s. branch (Yields f) _ _ _ (λ z. turned f k Long d refl v)
-      (λ m. branch (Yields f) _ _ _ (λ z. turned f k answers.Held d refl v)
-      (λ r. took f k (transmitting d b l n) (done-transmitting b l n) (transmitting-keeps b l n h y s m r))))))))
+      branch (Yields f) _ _ _ (λ x. turned f k 12 d refl v)
+      (λ x. branch (Yields f) _ _ _ (λ y. turned f k 7 d refl v)
+      (λ h. branch (Yields f) _ _ _ (λ y. turned f k 1 d refl v)
+      (λ o. branch (Yields f) _ _ _ (λ y. turned f k 2 d refl v)
+      (λ y. branch (Yields f) _ _ _ (λ z. turned f k 3 d refl v)
+      (λ s. branch (Yields f) _ _ _ (λ z. turned f k 4 d refl v)
+      (λ m. branch (Yields f) _ _ _ (λ z. turned f k 8 d refl v)
+      (λ r. took f k (beginTransmit d b l n) (done-transmitting b l n) (transmitting-keeps b l n h y s m r))))))))
 
   receive-keeps : (b l : ℕ) → Entered (lendsReceive b) k (receiveBufferCall d b l)
   unfolding receiveBufferCall
   receive-keeps b l =
       let f = lendsReceive b in
       let u = d .buffers .under in
-      let t = has (d .buffers .«rx_buf») in
-      branch (Entered f k) _ _ _ (λ y. turned f k Handle d refl v)
-      (λ h. branch (Entered f k) _ _ _ (λ y. turned f k Short d refl v)
-      (λ s. branch (Entered f k) _ _ _ (λ y. turned f k Full d refl v)
-      (λ y. branch (Entered f k) _ _ _ (λ z. turned f k answers.Held d refl v)
+      let t = isHeld (d .buffers .«rx_buf») in
+      branch (Entered f k) _ _ _ (λ y. turned f k 7 d refl v)
+      (λ h. branch (Entered f k) _ _ _ (λ y. turned f k 9 d refl v)
+      (λ s. branch (Entered f k) _ _ _ (λ y. turned f k 10 d refl v)
+      (λ y. branch (Entered f k) _ _ _ (λ z. turned f k 8 d refl v)
       (λ r. let low = ltb-false 15 b (is-false (ltb 15 b) (nor-left (ltb 15 b) (ltb 160 l) h)) in
       took f k _ refl (record {
         inv = record {
-          match = lends-rx (d .buffers) k (v .match) b l (d .buffers .«tx_len») (omega arith) (is-false t (nor-left t _ y)) (is-false (recordHas (d .buffers) b) r);
+          match =
+              lends-rx (d .buffers) k (v .match) b l (d .buffers .«tx_len») (omega arith) (is-false t (nor-left t _ y))
+              (is-false (recordHas (d .buffers) b) r);
           fitted = rx-fits .gives _ _ _ _ _ _ (v .fitted) (subst (λ x. T (not (t || x))) (received-is u) y);
           lengths = lengths-received b l (nor-right (ltb 15 b) (ltb 160 l) h) s;
         };

@@ -14,24 +14,53 @@ use Rattle.rf233_const.specs.Command as command
 use Rattle.rf233_const.specs.Flags.{rxCrcValidBit}
 use Rattle.rf233.specs.Action.{actions, item}
 use Rattle.custody.specs.Book.{Page, begun, taken, noted, notedAll, given}
-use Rattle.rf233.specs.Choice.{pick, oneOf}
+use Rattle.rf233.specs.Choice.{pick, oneOf, within}
 use Rattle.custody.specs.Claim.{kindOf, underKind}
-use Rattle.rf233.specs.Completion.{has}
-use Rattle.rf233.specs.Driver.{Flag, Setting, flag, setFlag, setAll, flagNo, setting, inState, withBuffers}
-use Rattle.rf233.specs.Driver.Flag.{sending, handling, crcValid}
-use Rattle.rf233.specs.Driver.Setting.{put, putCrc}
-use Rattle.rf233.specs.Engine.{bufferIn, perform, accessed, shown, handed, entering, withoutTx, withoutRx, own, caseOf}
+use Rattle.rf233.specs.Record.{isHeld, bufferIn}
+use Rattle.rf233.specs.Driver.{Flag, Assignment, flag, setFlag, assignAll, flagNo, assigning, withState, withBuffers}
+use Rattle.rf233.specs.Driver.Flag.{transmitting, interruptHandling, crcValid}
+use Rattle.rf233.specs.Driver.Assignment.{put, putCrc}
+use Rattle.rf233.specs.Case.{perform, accessed, shown, handed, entering, withoutTx, withoutRx, ownCase, caseOf, treeAt}
 use Rattle.rf233.specs.Record as rec
-use Rattle.rf233.specs.Record.{within, slotAbove, txLengthBad, rxLengthBad, lengthBad}
-use Rattle.rf233.specs.Rows.{Access, Shown, Next, Row, holds, eval, treeAt}
+use Rattle.rf233.specs.Described.{slotAbove, txLengthBad, rxLengthBad, lengthBad}
+use Rattle.rf233.specs.Rows.{Access, Shown, Next, Row, holds, eval}
 use Rattle.rf233.specs.Rows.Test.{lengthFits}
 use Rattle.rf233.specs.Rows.Access.{none, reads, writes, readsLength, readsFrame, writesFrame}
 use Rattle.rf233.specs.Rows.Shown.{plain, powerChanged, configDone, sentBack, droppedBack, receivedBack}
 use Rattle.rf233.specs.Rows.Row.{does}
 use Rattle.rf233.specs.State.{stateNo}
-use Rattle.rf233.specs.Transfer.{isIdle, recorded, transferOf, begins, refrains, registerTransfer, frameRead, frameReadInto, frameWrite, frameWriteFrom}
+use Rattle.rf233.specs.Transfer.{
+  isIdle,
+  recordWith,
+  transferOf,
+  begins,
+  refrains,
+  registerTransfer,
+  frameRead,
+  frameReadInto,
+  frameWrite,
+  frameWriteFrom,
+}
 use Rattle.rf233.specs.declared.action.Action.{Action}
-use Rattle.rf233.specs.declared.action.Action.the-variants.{Nothing, Power, Sent, Received, ConfigDone, Dropped, IrqMakeInput, IrqClear, IrqSetFloatingState, IrqEnableInterrupts, IrqDisableInterrupts, SleepMakeOutput, SleepSet, SleepClear, ResetMakeOutput, ResetClear, ResetSet}
+use Rattle.rf233.specs.declared.action.Action.the-variants.{
+  Nothing,
+  Power,
+  Sent,
+  Received,
+  ConfigDone,
+  Dropped,
+  IrqMakeInput,
+  IrqClear,
+  IrqSetFloatingState,
+  IrqEnableInterrupts,
+  IrqDisableInterrupts,
+  SleepMakeOutput,
+  SleepSet,
+  SleepClear,
+  ResetMakeOutput,
+  ResetClear,
+  ResetSet,
+}
 use Rattle.rf233.specs.declared.answer.Outcome.{Outcome}
 use Rattle.rf233.specs.declared.answer.Reply.{Reply}
 use Rattle.rf233.specs.declared.arrived.Arrived.{Arrived}
@@ -45,36 +74,48 @@ use Rattle.rf233.specs.declared.driver.Slot.{Slot}
 use Rattle.rf233.specs.declared.driver.Slot.the-variants.{Empty, Held}
 use Rattle.rf233.proofs.Fit.Kind.{nothing, access, reading, writing}
 use Rattle.rf233.proofs.Fit.{Kind, kind, fit, final, joins, harmless, okShown, txLeft, rxLeft, nextNo, okAccess, okRow}
-use Rattle.rf233.proofs.Sound.{both-left, both-right}
-use Rattle.rf233.proofs.Logic.{branch, left, right, pair}
+use Rattle.laws.proofs.Logic.{both-left, both-right, left, right, pair}
+use Rattle.rf233.proofs.ChoiceLaws.{branch}
 use Rattle.custody.specs.Ranges.{transferFits, actionFits, actionsFit}
 use Rattle.custody.proofs.BookLaws.{register-kind}
-use Rattle.custody.proofs.Match.{Match, noFrame, begins-register, begins-read, begins-write, ends, gives-tx, gives-rx, lends-tx, lends-rx, refuses}
+use Rattle.custody.proofs.Match.{
+  Match,
+  noFrame,
+  begins-register,
+  begins-read,
+  begins-write,
+  ends,
+  gives-tx,
+  gives-rx,
+  lends-tx,
+  lends-rx,
+  refuses,
+}
 use Rattle.rf233.specs.Place.{transmitPlace, receivePlace}
 
 -- the record b with flags f fits state n
 abbrev pub Fits : ℕ → Buffers → Flags → Type 0
-Fits n b f = T (fit (kind (b .under)) n (has (b .«tx_buf»)) (has (b .«rx_buf»)) (flag sending f) (flag handling f))
+Fits n b f = T (fit (kind (b .under)) n (isHeld (b .«tx_buf»)) (isHeld (b .«rx_buf»)) (flag transmitting f) (flag interruptHandling f))
 
 -- the record once a register transfer has begun
 abbrev pub registers : Buffers → Buffers
-registers b = recorded false false (b .«spi_buf») (b .«spi_buf_len») (b .«tx_buf») (b .«rx_buf») Register b
+registers b = recordWith false false (b .«spi_buf») (b .«spi_buf_len») (b .«tx_buf») (b .«rx_buf») Register b
 
 -- the record once a frame read, or a frame write, has begun
 abbrev reading-into : ℕ → ℕ → ℕ → Buffers → Buffers
-reading-into c l n b = recorded (b .«spi_tx») (b .«spi_rx») false n (b .«tx_buf») Empty (FrameRead c l) b
+reading-into c l n b = recordWith (b .«spi_tx») (b .«spi_rx») false n (b .«tx_buf») Empty (FrameRead c l) b
 
 abbrev writing-from : ℕ → ℕ → Buffers → Buffers
-writing-from c l b = recorded (b .«spi_tx») (b .«spi_rx») false (b .«spi_buf_len») Empty (b .«rx_buf») (FrameWrite c l) b
+writing-from c l b = recordWith (b .«spi_tx») (b .«spi_rx») false (b .«spi_buf_len») Empty (b .«rx_buf») (FrameWrite c l) b
 
 -- every length of the record is within its bounds
 pub record Lengths (r : Buffers) : Type 0 where
   pub whole : within 129 160 (r .«spi_buf_whole») ≡ true
   pub present : within 2 (r .«spi_buf_whole») (r .«spi_buf_len») ≡ true
   pub tx : txLengthBad (r .«tx_buf») (r .«tx_len») ≡ false
-  pub tx-under : txLengthBad (rec.sending (r .under)) (r .«tx_len») ≡ false
+  pub tx-under : txLengthBad (rec.txUnderWay (r .under)) (r .«tx_len») ≡ false
   pub rx : rxLengthBad (r .«rx_buf») ≡ false
-  pub rx-under : rxLengthBad (rec.receiving (r .under)) ≡ false
+  pub rx-under : rxLengthBad (rec.rxUnderWay (r .under)) ≡ false
 
 -- the invariant
 pub record Inv (k : Page) (d : Driver) : Type 0 where
@@ -143,7 +184,8 @@ nothing-fits (suc n) (suc m) = nothing-fits n m
 pub filled-fits : (n m : ℕ) (l : List Action) → T (fitting l) → T (actionsFit (map item (take n (l ++ replicate m Nothing))))
 filled-fits n m [] h = nothing-fits n m
 filled-fits zero m (x ∷ l) h = tt
-filled-fits (suc n) m (x ∷ l) h = pair (actionFits x) _ (left (actionFits x) (fitting l) h) (filled-fits n m l (right (actionFits x) (fitting l) h))
+filled-fits (suc n) m (x ∷ l) h =
+    pair (actionFits x) _ (left (actionFits x) (fitting l) h) (filled-fits n m l (right (actionFits x) (fitting l) h))
 
 -- an action that hands nothing back is within its range
 quiet-fits : (x : Action) → T (harmless x) → T (actionFits x)
@@ -171,7 +213,8 @@ client-below Empty e = tt
 client-below (Held c l) e = subst T (sym (le-leb c 15 (omega (arith, ltb-false 15 c e)))) tt
 
 -- a row's actions are within their ranges
-pub shown-fits : (a : Arrived) (d : Driver) → slotAbove (d .buffers .«tx_buf») ≡ false → (sh : List Shown) (t r : Bool) → T (okShown sh t r) → T (fitting (shown a d sh))
+pub shown-fits : (a : Arrived) (d : Driver) → slotAbove (d .buffers .«tx_buf») ≡ false → (sh : List Shown) (t r : Bool)
+    → T (okShown sh t r) → T (fitting (shown a d sh))
 shown-fits a d e [] t r o = tt
 shown-fits a d e (plain x ∷ more) t r o =
     pair (actionFits x) _ (quiet-fits x (left (harmless x) _ o)) (shown-fits a d e more t r (right (harmless x) _ o))
@@ -188,29 +231,31 @@ shown-fits a d e (receivedBack ∷ more) t r o = shown-fits a d e more t false (
 pub fewer : (a : Arrived) (d : Driver) (sh : List Shown) → length (shown a d sh) ≤ length sh
 fewer a d [] = le-refl 0
 fewer a d (plain x ∷ more) = suc-le-suc (fewer a d more)
-fewer a d (powerChanged ∷ more) = branch (λ z. length z ≤ suc (length more)) _ _ _ (λ y. suc-le-suc (fewer a d more)) (λ y. le-step (fewer a d more))
-fewer a d (configDone ∷ more) = branch (λ z. length z ≤ suc (length more)) _ _ _ (λ y. suc-le-suc (fewer a d more)) (λ y. le-step (fewer a d more))
+fewer a d (powerChanged ∷ more) =
+    branch (λ z. length z ≤ suc (length more)) _ _ _ (λ y. suc-le-suc (fewer a d more)) (λ y. le-step (fewer a d more))
+fewer a d (configDone ∷ more) =
+    branch (λ z. length z ≤ suc (length more)) _ _ _ (λ y. suc-le-suc (fewer a d more)) (λ y. le-step (fewer a d more))
 fewer a d (sentBack ∷ more) = suc-le-suc (fewer a d more)
 fewer a d (droppedBack ∷ more) = suc-le-suc (fewer a d more)
 fewer a d (receivedBack ∷ more) = suc-le-suc (fewer a d more)
 
 -- a place that is full has a buffer
-full : {A : Type 0} (s : Slot) → T (has s) → ((c l : ℕ) → s ≡ Held c l → A) → A
+full : {A : Type 0} (s : Slot) → T (isHeld s) → ((c l : ℕ) → s ≡ Held c l → A) → A
 full Empty h f = absurd h
 full (Held c l) h f = f c l refl
 
 -- the buffer that a notice names is the one in the place
-named : (s t : Slot) (c l : ℕ) → s ≡ Held c l → (T (has s) → s ≡ t) → bufferIn t ≡ c
-named s t c l e f = ap bufferIn (sym (f (subst (λ z. T (has z)) (sym e) tt)) ∙ e)
+named : (s t : Slot) (c l : ℕ) → s ≡ Held c l → (T (isHeld s) → s ≡ t) → bufferIn t ≡ c
+named s t c l e f = ap bufferIn (sym (f (subst (λ z. T (isHeld z)) (sym e) tt)) ∙ e)
 
 -- the actions of a row, entered, leave the book in agreement with the places that they empty. The row is of the driver d; b is the record
 -- as far as it has been emptied: a place of b that is full is d's
 module _ (a : Arrived) (d : Driver) where
   pub record Of (b : Buffers) : Type 0 where
-    pub tx-of : T (has (b .«tx_buf»)) → b .«tx_buf» ≡ d .buffers .«tx_buf»
-    pub rx-of : T (has (b .«rx_buf»)) → b .«rx_buf» ≡ d .buffers .«rx_buf»
+    pub tx-of : T (isHeld (b .«tx_buf»)) → b .«tx_buf» ≡ d .buffers .«tx_buf»
+    pub rx-of : T (isHeld (b .«rx_buf»)) → b .«rx_buf» ≡ d .buffers .«rx_buf»
 
-  pub hands : (sh : List Shown) (b : Buffers) (k : Page) → Of b → T (okShown sh (has (b .«tx_buf»)) (has (b .«rx_buf»))) → Match b k
+  pub hands : (sh : List Shown) (b : Buffers) (k : Page) → Of b → T (okShown sh (isHeld (b .«tx_buf»)) (isHeld (b .«rx_buf»))) → Match b k
       → Match (handed sh b) (notes (shown a d sh) k)
   hands [] b k f o m = m
   hands (plain x ∷ more) b k f o m =
@@ -221,17 +266,23 @@ module _ (a : Arrived) (d : Driver) where
   hands (configDone ∷ more) b k f o m =
       branch (λ z. Match (handed more b) (notes z k)) _ _ _ (λ y. hands more b k f o m) (λ y. hands more b k f o m)
   hands (sentBack ∷ more) b k f o m =
-      full (b .«tx_buf») (left (has (b .«tx_buf»)) _ o)
-      (λ c l e. subst (λ z. Match (handed more (withoutTx b)) (notes (shown a d more) (given z transmitPlace 1 0 k))) (sym (named (b .«tx_buf») (d .buffers .«tx_buf») c l e (f .tx-of)))
-      (hands more (withoutTx b) (given c transmitPlace 1 0 k) (record { tx-of = λ y. absurd y; rx-of = f .rx-of }) (right (has (b .«tx_buf»)) _ o) (gives-tx b k m c l 1 0 e refl)))
+      full (b .«tx_buf») (left (isHeld (b .«tx_buf»)) _ o)
+      (λ c l e. subst (λ z. Match (handed more (withoutTx b)) (notes (shown a d more) (given z transmitPlace 1 0 k)))
+      (sym (named (b .«tx_buf») (d .buffers .«tx_buf») c l e (f .tx-of)))
+      (hands more (withoutTx b) (given c transmitPlace 1 0 k) (record { tx-of = λ y. absurd y; rx-of = f .rx-of })
+      (right (isHeld (b .«tx_buf»)) _ o) (gives-tx b k m c l 1 0 e refl)))
   hands (droppedBack ∷ more) b k f o m =
-      full (b .«tx_buf») (left (has (b .«tx_buf»)) _ o)
-      (λ c l e. subst (λ z. Match (handed more (withoutTx b)) (notes (shown a d more) (given z transmitPlace 0 1 k))) (sym (named (b .«tx_buf») (d .buffers .«tx_buf») c l e (f .tx-of)))
-      (hands more (withoutTx b) (given c transmitPlace 0 1 k) (record { tx-of = λ y. absurd y; rx-of = f .rx-of }) (right (has (b .«tx_buf»)) _ o) (gives-tx b k m c l 0 1 e refl)))
+      full (b .«tx_buf») (left (isHeld (b .«tx_buf»)) _ o)
+      (λ c l e. subst (λ z. Match (handed more (withoutTx b)) (notes (shown a d more) (given z transmitPlace 0 1 k)))
+      (sym (named (b .«tx_buf») (d .buffers .«tx_buf») c l e (f .tx-of)))
+      (hands more (withoutTx b) (given c transmitPlace 0 1 k) (record { tx-of = λ y. absurd y; rx-of = f .rx-of })
+      (right (isHeld (b .«tx_buf»)) _ o) (gives-tx b k m c l 0 1 e refl)))
   hands (receivedBack ∷ more) b k f o m =
-      full (b .«rx_buf») (left (has (b .«rx_buf»)) _ o)
-      (λ c l e. subst (λ z. Match (handed more (withoutRx b)) (notes (shown a d more) (given z receivePlace 1 0 k))) (sym (named (b .«rx_buf») (d .buffers .«rx_buf») c l e (f .rx-of)))
-      (hands more (withoutRx b) (given c receivePlace 1 0 k) (record { tx-of = f .tx-of; rx-of = λ y. absurd y }) (right (has (b .«rx_buf»)) _ o) (gives-rx b k m c l e)))
+      full (b .«rx_buf») (left (isHeld (b .«rx_buf»)) _ o)
+      (λ c l e. subst (λ z. Match (handed more (withoutRx b)) (notes (shown a d more) (given z receivePlace 1 0 k)))
+      (sym (named (b .«rx_buf») (d .buffers .«rx_buf») c l e (f .rx-of)))
+      (hands more (withoutRx b) (given c receivePlace 1 0 k) (record { tx-of = f .tx-of; rx-of = λ y. absurd y })
+      (right (isHeld (b .«rx_buf»)) _ o) (gives-rx b k m c l e)))
 
 -- ---- starters
 
@@ -257,12 +308,14 @@ module _ (k : Page) (d : Driver) (m : Match (d .buffers) k) (i : isIdle (d .buff
   unfolding registerTransfer pick
   register-begins n x y = rw (i, tx-there, rx-there)
 
-  read-begins : (n c l : ℕ) → frameReadInto (Held c l) n d ≡ begins (transferOf 3 18 c command.frameRead n (n + 2) l) (reading-into c l (n + 2) (d .buffers)) d
+  read-begins : (n c l : ℕ) → frameReadInto (Held c l) n d ≡ begins (transferOf 3 18 c command.frameRead n (n + 2) l)
+      (reading-into c l (n + 2) (d .buffers)) d
   unfolding frameReadInto pick
   read-begins n c l = rw (i, buf-there)
 
   write-begins : (c l : ℕ) → frameWriteFrom (Held c l) d
-      ≡ begins (transferOf 4 c 18 command.frameWrite (d .buffers .«tx_len») (d .buffers .«tx_len» + 2) (d .buffers .«spi_buf_len»)) (writing-from c l (d .buffers)) d
+      ≡ begins (transferOf 4 c 18 command.frameWrite (d .buffers .«tx_len») (d .buffers .«tx_len» + 2) (d .buffers .«spi_buf_len»))
+      (writing-from c l (d .buffers)) d
   unfolding frameWriteFrom pick
   write-begins c l = rw (i, buf-there)
 
@@ -276,10 +329,12 @@ register-refrains d n x y i = rw i
 -- emptied places leave the transfer, the other place, and the lengths
 module _ (b : Buffers) (g : Lengths b) where
   lengths-without-tx : Lengths (withoutTx b)
-  lengths-without-tx = record { whole = g .whole; present = g .present; tx = refl; tx-under = g .tx-under; rx = g .rx; rx-under = g .rx-under }
+  lengths-without-tx =
+      record { whole = g .whole; present = g .present; tx = refl; tx-under = g .tx-under; rx = g .rx; rx-under = g .rx-under }
 
   lengths-without-rx : Lengths (withoutRx b)
-  lengths-without-rx = record { whole = g .whole; present = g .present; tx = g .tx; tx-under = g .tx-under; rx = refl; rx-under = g .rx-under }
+  lengths-without-rx =
+      record { whole = g .whole; present = g .present; tx = g .tx; tx-under = g .tx-under; rx = refl; rx-under = g .rx-under }
 
 pub handed-lengths : (sh : List Shown) (b : Buffers) → Lengths b → Lengths (handed sh b)
 handed-lengths [] b g = g
@@ -299,7 +354,7 @@ handed-under (sentBack ∷ more) b = handed-under more (withoutTx b)
 handed-under (droppedBack ∷ more) b = handed-under more (withoutTx b)
 handed-under (receivedBack ∷ more) b = handed-under more (withoutRx b)
 
-pub handed-tx : (sh : List Shown) (b : Buffers) → has (handed sh b .«tx_buf») ≡ txLeft sh (has (b .«tx_buf»))
+pub handed-tx : (sh : List Shown) (b : Buffers) → isHeld (handed sh b .«tx_buf») ≡ txLeft sh (isHeld (b .«tx_buf»))
 handed-tx [] b = refl
 handed-tx (plain x ∷ more) b = handed-tx more b
 handed-tx (powerChanged ∷ more) b = handed-tx more b
@@ -308,7 +363,7 @@ handed-tx (sentBack ∷ more) b = handed-tx more (withoutTx b)
 handed-tx (droppedBack ∷ more) b = handed-tx more (withoutTx b)
 handed-tx (receivedBack ∷ more) b = handed-tx more (withoutRx b)
 
-pub handed-rx : (sh : List Shown) (b : Buffers) → has (handed sh b .«rx_buf») ≡ rxLeft sh (has (b .«rx_buf»))
+pub handed-rx : (sh : List Shown) (b : Buffers) → isHeld (handed sh b .«rx_buf») ≡ rxLeft sh (isHeld (b .«rx_buf»))
 handed-rx [] b = refl
 handed-rx (plain x ∷ more) b = handed-rx more b
 handed-rx (powerChanged ∷ more) b = handed-rx more b
@@ -318,7 +373,9 @@ handed-rx (droppedBack ∷ more) b = handed-rx more (withoutTx b)
 handed-rx (receivedBack ∷ more) b = handed-rx more (withoutRx b)
 
 -- a flag after a row's settings
-pub flag-after : (r : ℕ) (l : List Setting) (f : Flags) → (flag sending (setAll r l f) ≡ final sending l (flag sending f)) × (flag handling (setAll r l f) ≡ final handling l (flag handling f))
+pub flag-after : (r : ℕ) (l : List Assignment) (f : Flags)
+    → (flag transmitting (assignAll r l f) ≡ final transmitting l (flag transmitting f))
+    × (flag interruptHandling (assignAll r l f) ≡ final interruptHandling l (flag interruptHandling f))
 flag-after r [] f = (refl, refl)
 flag-after r (put x v ∷ more) f = flag-after r more (setFlag x v f)
 flag-after r (putCrc ∷ more) f = flag-after r more (setFlag crcValid (bitSet rxCrcValidBit r) f)
@@ -372,19 +429,23 @@ reading-spans c l n b e h g =
     let k = bounds 129 160 l (not-false (within 129 160 l) (ap rxLengthBad (sym e) ∙ g .rx)) in
     (omega arith, omega (arith, k .0), k .1)
 
-writing-spans : (c l : ℕ) (b : Buffers) → b .«tx_buf» ≡ Held c l → Lengths b → (b .«tx_len» + 2 ≤ 160) × (2 ≤ b .«spi_buf_len») × (b .«spi_buf_len» ≤ 160)
+writing-spans : (c l : ℕ) (b : Buffers) → b .«tx_buf» ≡ Held c l → Lengths b
+    → (b .«tx_len» + 2 ≤ 160) × (2 ≤ b .«spi_buf_len») × (b .«spi_buf_len» ≤ 160)
 writing-spans c l b e g =
     let n = b .«tx_len» in
-    let k = bounds 2 127 n (both-left (within 2 127 n) _ (not-false (within 2 127 n && within (n + 3) 160 l) (ap (λ s. txLengthBad s n) (sym e) ∙ g .tx))) in
+    let k = bounds 2 127 n (both-left (within 2 127 n) _
+    (not-false (within 2 127 n && within (n + 3) 160 l) (ap (λ s. txLengthBad s n) (sym e) ∙ g .tx))) in
     let w = bounds 129 160 (b .«spi_buf_whole») (g .whole) in
     let p = bounds 2 (b .«spi_buf_whole») (b .«spi_buf_len») (g .present) in
     (omega (arith, k .1), p .0, omega (arith, p .1, w .1))
 
 -- an access that passes the test, while no transfer is under way
-module _ (a : Arrived) (e : Driver) (k : Page) (m : Match (e .buffers) k) (g : Lengths (e .buffers)) (i : isIdle (e .buffers .under) ≡ true) where
+module _ (a : Arrived) (e : Driver) (k : Page) (m : Match (e .buffers) k) (g : Lengths (e .buffers))
+    (i : isIdle (e .buffers .under) ≡ true) where
   abbrev ok : Access → Bool
   ok x =
-      okAccess x (stateNo (e .state)) (has (e .buffers .«tx_buf»)) (has (e .buffers .«rx_buf»)) (flag sending (e .flags)) (flag handling (e .flags))
+      okAccess x (stateNo (e .state)) (isHeld (e .buffers .«tx_buf»)) (isHeld (e .buffers .«rx_buf»)) (flag transmitting (e .flags))
+      (flag interruptHandling (e .flags))
       (leb 11 (a .result) && leb (a .result) 127)
 
   none-keeps : T (ok none) → Begun k (refrains e)
@@ -392,31 +453,41 @@ module _ (a : Arrived) (e : Driver) (k : Page) (m : Match (e .buffers) k) (g : L
       record {
         inv = record {
           match = m;
-          fitted = subst (λ u. T (fit (kind u) (stateNo (e .state)) (has (e .buffers .«tx_buf»)) (has (e .buffers .«rx_buf»)) (flag sending (e .flags)) (flag handling (e .flags)))) (sym (under-idle (e .buffers .under) i)) o;
+          fitted =
+              subst (λ u. T (fit (kind u) (stateNo (e .state)) (isHeld (e .buffers .«tx_buf»)) (isHeld (e .buffers .«rx_buf»))
+              (flag transmitting (e .flags)) (flag interruptHandling (e .flags)))) (sym (under-idle (e .buffers .under) i)) o;
           lengths = g;
         };
         spans = tt;
       }
 
   pub register-keeps : (n x y : ℕ) → kindOf n ≡ 1 → eqb n 0 ≡ false
-      → T (fit access (stateNo (e .state)) (has (e .buffers .«tx_buf»)) (has (e .buffers .«rx_buf»)) (flag sending (e .flags)) (flag handling (e .flags)))
+      → T (fit access (stateNo (e .state)) (isHeld (e .buffers .«tx_buf»)) (isHeld (e .buffers .«rx_buf»)) (flag transmitting (e .flags))
+      (flag interruptHandling (e .flags)))
       → Begun k (registerTransfer n x y e)
   register-keeps n x y q z o =
       subst (Begun k) (sym (register-begins k e m i n x y))
       (record {
         inv = record { match = rw z (begins-register (e .buffers) k m n q i); fitted = o; lengths = lengths-register (e .buffers) g };
-        spans = let (_, h) = register-kind n q in rw (z, spanning n 2 2 (omega arith) (omega arith) (omega arith) (omega arith) (omega arith)) tt;
+        spans =
+            let (_, h) = register-kind n q in rw (
+              z,
+              spanning n 2 2 (omega arith) (omega arith) (omega arith) (omega arith) (omega arith),
+            )
+            tt;
       })
 
-  reading-keeps : (n : ℕ) → n ≤ 127 → T (has (e .buffers .«rx_buf») && fit reading (stateNo (e .state)) (has (e .buffers .«tx_buf»)) false (flag sending (e .flags)) (flag handling (e .flags)))
+  reading-keeps : (n : ℕ) → n ≤ 127 → T
+      (isHeld (e .buffers .«rx_buf») && fit reading (stateNo (e .state)) (isHeld (e .buffers .«tx_buf»)) false
+      (flag transmitting (e .flags)) (flag interruptHandling (e .flags)))
       → Begun k (frameRead n e)
   reading-keeps n h o =
-      full (e .buffers .«rx_buf») (left (has (e .buffers .«rx_buf»)) _ o)
+      full (e .buffers .«rx_buf») (left (isHeld (e .buffers .«rx_buf»)) _ o)
       (λ c l q. subst (Begun k) (sym (ap (λ s. frameReadInto s n e) q ∙ read-begins k e m i n c l))
       (record {
         inv = record {
           match = begins-read (e .buffers) k m c l (n + 2) q i;
-          fitted = right (has (e .buffers .«rx_buf»)) _ o;
+          fitted = right (isHeld (e .buffers .«rx_buf»)) _ o;
           lengths = lengths-read c l n (e .buffers) q h g;
         };
         spans = let (x, y, z) = reading-spans c l n (e .buffers) q h g in rw (spanning 3 (n + 2) l (omega arith) (omega arith) x y z) tt;
@@ -424,15 +495,17 @@ module _ (a : Arrived) (e : Driver) (k : Page) (m : Match (e .buffers) k) (g : L
 
   writing-keeps : T (ok writesFrame) → Begun k (frameWrite e)
   writing-keeps o =
-      full (e .buffers .«tx_buf») (left (has (e .buffers .«tx_buf»)) _ o)
+      full (e .buffers .«tx_buf») (left (isHeld (e .buffers .«tx_buf»)) _ o)
       (λ c l q. subst (Begun k) (sym (ap (λ s. frameWriteFrom s e) q ∙ write-begins k e m i c l))
       (record {
         inv = record {
           match = begins-write (e .buffers) k m c l (e .buffers .«spi_buf_len») q i;
-          fitted = right (has (e .buffers .«tx_buf»)) _ o;
+          fitted = right (isHeld (e .buffers .«tx_buf»)) _ o;
           lengths = lengths-write c l (e .buffers) q g;
         };
-        spans = let (x, y, z) = writing-spans c l (e .buffers) q g in rw (spanning 4 (e .buffers .«tx_len» + 2) (e .buffers .«spi_buf_len») (omega arith) (omega arith) x y z) tt;
+        spans =
+            let (x, y, z) = writing-spans c l (e .buffers) q g in rw
+            (spanning 4 (e .buffers .«tx_len» + 2) (e .buffers .«spi_buf_len») (omega arith) (omega arith) x y z) tt;
       }))
 
   pub access-keeps : (x : Access) → T (ok x) → Begun k (accessed x a e)

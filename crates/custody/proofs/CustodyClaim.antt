@@ -8,12 +8,13 @@ use native.Mathlib.Omega.{arith}
 use lib.Dec.{T, eqb, leb, ltb}
 use borrow.Author.Tests.{leb-true, le-leb, eqb-true}
 use lib.ListN.{length, getD}
-use Rattle.rf233.specs.Calls.{channelFits}
+use Rattle.rf233.specs.Config.{channelFits}
 use Rattle.custody.specs.Claim.{World, Event, next, run, newWorld, only, Kept, Custody}
-use Rattle.rf233.specs.New.{newCall, newDriver}
+use Rattle.rf233.specs.Create.{newCall, newDriver}
 use Rattle.custody.specs.Book.{Page, newPage}
-use Rattle.rf233.specs.Place.{client, firstPlace, placeOf}
-use Rattle.rf233.specs.Record.{within, poolFault}
+use Rattle.rf233.specs.Place.{clientPlace, firstPlace, placeOf}
+use Rattle.rf233.specs.Choice.{within}
+use Rattle.rf233.specs.Guard.{poolFault}
 use Rattle.rf233.specs.declared.answer.Outcome.{Outcome}
 use Rattle.custody.specs.Ranges.{InRange}
 use Rattle.rf233.specs.State.{stateNo}
@@ -22,8 +23,8 @@ use Rattle.custody.proofs.Custody.{Inv, Lengths}
 use Rattle.custody.proofs.Calls.{keeps, sound}
 use Rattle.rf233.proofs.Conditions.{by-flag}
 use Rattle.rf233.proofs.Fit.{fit}
-use Rattle.rf233.proofs.Logic.{branch, left, is-true}
-use Rattle.rf233.proofs.Sound.{both-left}
+use Rattle.laws.proofs.Logic.{left, is-true, both-left}
+use Rattle.rf233.proofs.ChoiceLaws.{branch}
 use Rattle.custody.proofs.Match.{match-new, counted-in-record}
 
 -- the invariant of a world
@@ -38,7 +39,15 @@ new-holds l c e =
     record {
       match = match-new l c;
       fitted = tt;
-      lengths = record { whole = e; present = rw (le-leb 2 l (omega arith), le-leb l l (omega arith)); tx = refl; tx-under = refl; rx = refl; rx-under = refl };
+      lengths =
+          record {
+            whole = e;
+            present = rw (le-leb 2 l (omega arith), le-leb l l (omega arith));
+            tx = refl;
+            tx-under = refl;
+            rx = refl;
+            rx-under = refl;
+          };
     }
 
 -- and 15's driver
@@ -77,17 +86,19 @@ custody l c es = kept (run (newWorld l c) es) (run-holds (newWorld l c) es (newl
 
 -- so the query's answer is where the book has the buffer
 first-only : (p : ℕ) → firstPlace (only p) ≡ p
-first-only p = by-flag (eqb p client) (λ e. rw e (sym (eqb-true p client e))) (λ e. rw e)
+first-only p = by-flag (eqb p clientPlace) (λ e. rw e (sym (eqb-true p clientPlace e))) (λ e. rw e)
 
 pub query-is-the-book : (l c : ℕ) (es : List Event) (b : ℕ) → b < 19
-    → placeOf (run (newWorld l c) es .driver .buffers) b ≡ getD (run (newWorld l c) es .book .places) b client
+    → placeOf (run (newWorld l c) es .driver .buffers) b ≡ getD (run (newWorld l c) es .book .places) b clientPlace
 unfolding placeOf
-query-is-the-book l c es b h = ap firstPlace (custody l c es .placed b h) ∙ first-only (getD (run (newWorld l c) es .book .places) b client)
+query-is-the-book l c es b h =
+    ap firstPlace (custody l c es .placed b h) ∙ first-only (getD (run (newWorld l c) es .book .places) b clientPlace)
 
 -- from a new driver 12 is given exactly for a pool that is not 3,040 bytes long
 pub twelve-is-the-pool : (l c : ℕ) (es : List Event) (p : List ℕ) → poolFault (run (newWorld l c) es .driver) p ≡ not (eqb (length p) 3040)
 twelve-is-the-pool l c es p =
-    rw (sound (run (newWorld l c) es .book) (run (newWorld l c) es .driver) (run-holds (newWorld l c) es (newly l c))) (or-false (not (eqb (length p) 3040)))
+    rw (sound (run (newWorld l c) es .book) (run (newWorld l c) es .driver) (run-holds (newWorld l c) es (newly l c)))
+    (or-false (not (eqb (length p) 3040)))
 
 -- what a driver that meets the invariant is in: one of the 69 states
 state-below : (k : Page) (d : Driver) → Inv k d → T (ltb (stateNo (d .state)) 69)

@@ -8,24 +8,54 @@ use native.Mathlib.Omega.{arith}
 use lib.Dec.{eqb, ltb}
 use lib.ListN.{length, getD, set, length-set, replicate, List·getD-append, getD-replicate}
 use borrow.Author.Tests.{ltb-false, eqb-true, eqb-false, ne-eqb, le-ltb, lt-ltb}
-use Rattle.custody.proofs.BookLaws.{At, at, own-wire, tx-wire, rx-wire, wire-own, wire-tx, wire-rx, tx-client, rx-client, client-tx, client-rx}
-use Rattle.custody.proofs.BookLaws.{put, away, away-set, sized-two, put-two, away-two, plain-kind, register-kind, idle-is, empty-is, none-of, one-some, one-twice, low, same}
+use Rattle.custody.proofs.BookLaws.{
+  At,
+  at,
+  own-transfer,
+  tx-transfer,
+  rx-transfer,
+  transfer-own,
+  transfer-tx,
+  transfer-rx,
+  tx-client,
+  rx-client,
+  client-tx,
+  client-rx,
+}
+use Rattle.custody.proofs.BookLaws.{
+  put,
+  away,
+  away-set,
+  sized-two,
+  put-two,
+  away-two,
+  plain-kind,
+  register-kind,
+  idle-is,
+  empty-is,
+  none-of,
+  one-some,
+  one-twice,
+  low,
+  same,
+}
 use Rattle.rf233.proofs.Conditions.{by-flag}
 use Rattle.custody.specs.Book.{Page, page, missing, newPage, taken, ended, given, brought, turnedDown}
-use Rattle.rf233.specs.Calls.{lent}
+use Rattle.rf233.specs.Data.{lent}
 use Rattle.custody.specs.Claim.{only, heldBelow, kindOf, underKind, underWrite, underRead}
-use Rattle.rf233.specs.Completion.{has, back}
-use Rattle.rf233.specs.Engine.{withoutTx, withoutRx}
-use Rattle.rf233.specs.New.{newDriver}
-use Rattle.rf233.specs.Record.{one, ownHas, slotHas, underHas, slotAbove, underSlot, countOf, recordHas, twiceBelow, recordedTwice, ownNowhere, clientAbove, heldBesides}
-use Rattle.rf233.specs.Transfer.{isIdle, recorded}
+use Rattle.rf233.specs.Record.{isHeld, one, ownHas, slotHas, underHas, countOf, recordHas}
+use Rattle.rf233.specs.Completion.{buffersBack}
+use Rattle.rf233.specs.Case.{withoutTx, withoutRx}
+use Rattle.rf233.specs.Create.{newDriver}
+use Rattle.rf233.specs.Described.{slotAbove, underSlot, twiceBelow, recordedTwice, ownNowhere, clientAbove, heldBesides}
+use Rattle.rf233.specs.Transfer.{isIdle, recordWith}
 use Rattle.rf233.specs.declared.answer.Reply.{Reply}
 use Rattle.rf233.specs.declared.driver.Buffers.{Buffers}
 use Rattle.rf233.specs.declared.driver.Slot.{Slot}
 use Rattle.rf233.specs.declared.driver.Slot.the-variants.{Empty, Held}
 use Rattle.rf233.specs.declared.driver.Under.{Under}
 use Rattle.rf233.specs.declared.driver.Under.the-variants.{Idle, Register, FrameRead, FrameWrite}
-use Rattle.rf233.specs.Place.{client, ownPlace, transmitPlace, receivePlace, placesOf, when}
+use Rattle.rf233.specs.Place.{clientPlace, ownPlace, transmitPlace, receivePlace, placesOf, when}
 
 -- no frame transfer is under way
 abbrev pub noFrame : Under → Bool
@@ -34,7 +64,7 @@ noFrame u = ltb (underKind u) 3
 pub record Match (r : Buffers) (k : Page) : Type 0 where
   pub faultless : k .fault ≡ false
   pub sized : length (k .places) ≡ 19
-  pub placed : (b : ℕ) → b < 19 → placesOf r b ≡ only (getD (k .places) b client)
+  pub placed : (b : ℕ) → b < 19 → placesOf r b ≡ only (getD (k .places) b clientPlace)
   pub kind-is : kindOf (k .kind) ≡ underKind (r .under)
   pub write-is : k .write ≡ underWrite (r .under)
   pub read-is : k .read ≡ underRead (r .under)
@@ -60,37 +90,37 @@ own-in (FrameWrite c l) = (omega arith, omega arith, omega arith)
 
 module _ (r : Buffers) (k : Page) (m : Match r k) where
   before : (b : ℕ) → b < 19
-      → At (ownHas r b) (slotHas (r .«tx_buf») b) (slotHas (r .«rx_buf») b) (underHas (r .under) b) (getD (k .places) b client)
+      → At (ownHas r b) (slotHas (r .«tx_buf») b) (slotHas (r .«rx_buf») b) (underHas (r .under) b) (getD (k .places) b clientPlace)
   before b h = at _ _ _ _ _ (m .placed b h)
 
   lows : (slotAbove (r .«tx_buf») ≡ false) × (slotAbove (r .«rx_buf») ≡ false) × (slotAbove (underSlot (r .under)) ≡ false)
   lows = none-of _ _ _ (m .below)
 
-  count-at : (b : ℕ) → b < 19 → countOf r b ≡ one (not (eqb (getD (k .places) b client) client))
+  count-at : (b : ℕ) → b < 19 → countOf r b ≡ one (not (eqb (getD (k .places) b clientPlace) clientPlace))
   unfolding countOf
   count-at b h = before b h .count
 
   -- what the record does not have is with its client
-  with-client : (b : ℕ) → b < 19 → recordHas r b ≡ false → getD (k .places) b client ≡ 0
+  with-client : (b : ℕ) → b < 19 → recordHas r b ≡ false → getD (k .places) b clientPlace ≡ 0
   with-client b h e =
-      by-flag (eqb (getD (k .places) b client) 0) (λ q. eqb-true _ 0 q)
+      by-flag (eqb (getD (k .places) b clientPlace) 0) (λ q. eqb-true _ 0 q)
       (λ q. absurd (omega (arith, ltb-false 0 (countOf r b) e, rw q at (count-at b h))))
 
   -- with no transfer under way
   module _ (u : r .under ≡ Idle) where
     idle-before : (b : ℕ) → b < 19
-        → At (eqb 16 b || (eqb 17 b || eqb 18 b)) (slotHas (r .«tx_buf») b) (slotHas (r .«rx_buf») b) false (getD (k .places) b client)
+        → At (eqb 16 b || (eqb 17 b || eqb 18 b)) (slotHas (r .«tx_buf») b) (slotHas (r .«rx_buf») b) false (getD (k .places) b clientPlace)
     idle-before b h = rw (m .tx-own, m .rx-own, m .buf-own, u) at (before b h)
 
     idle-kind : k .kind ≡ 0
     idle-kind = plain-kind (k .kind) 0 (rw u at (m .kind-is)) (λ e. omega arith)
 
-    idle-own : (b : ℕ) → b < 19 → eqb 16 b || (eqb 17 b || eqb 18 b) ≡ true → getD (k .places) b client ≡ 1
+    idle-own : (b : ℕ) → b < 19 → eqb 16 b || (eqb 17 b || eqb 18 b) ≡ true → getD (k .places) b clientPlace ≡ 1
     idle-own b h e = let x = rw e at (idle-before b h) in omega arith
 
   -- a register transfer begins, of either direction
   pub begins-register : (n : ℕ) → kindOf n ≡ 1 → isIdle (r .under) ≡ true
-      → Match (recorded false false (r .«spi_buf») (r .«spi_buf_len») (r .«tx_buf») (r .«rx_buf») Register r) (taken n 16 17 k)
+      → Match (recordWith false false (r .«spi_buf») (r .«spi_buf_len») (r .«tx_buf») (r .«rx_buf») Register r) (taken n 16 17 k)
   begins-register n e i =
       let u = idle-is (r .under) i in
       let (l, h) = register-kind n e in
@@ -111,8 +141,8 @@ module _ (r : Buffers) (k : Page) (m : Match r k) where
             );
         sized = sized-two (k .places) 16 4 17 4 (m .sized);
         placed =
-            put-two (k .places) 16 4 17 4 (m .sized) a b _ (rw (m .buf-own, u) (own-wire (idle-before u 16 a)))
-            (rw (m .buf-own, u) (own-wire (idle-before u 17 b)))
+            put-two (k .places) 16 4 17 4 (m .sized) a b _ (rw (m .buf-own, u) (own-transfer (idle-before u 16 a)))
+            (rw (m .buf-own, u) (own-transfer (idle-before u 17 b)))
             (λ b h f g. rw (f, g) (rw (m .tx-own, m .rx-own, u, f, g) at (m .placed b h)));
         kind-is = e;
         write-is = refl;
@@ -126,7 +156,7 @@ module _ (r : Buffers) (k : Page) (m : Match r k) where
 
   -- a frame read begins, into the buffer in the receive place
   pub begins-read : (c l n : ℕ) → r .«rx_buf» ≡ Held c l → isIdle (r .under) ≡ true
-      → Match (recorded (r .«spi_tx») (r .«spi_rx») false n (r .«tx_buf») Empty (FrameRead c l) r) (taken 3 18 c k)
+      → Match (recordWith (r .«spi_tx») (r .«spi_rx») false n (r .«tx_buf») Empty (FrameRead c l) r) (taken 3 18 c k)
   begins-read c l n e i =
       let u = idle-is (r .under) i in
       let h = low c (rw e at (lows .1)) in
@@ -135,14 +165,14 @@ module _ (r : Buffers) (k : Page) (m : Match r k) where
       let d = ne-eqb 18 c (λ z. omega arith) in
       let x = rw (e, same c, d) at (idle-before u c b) in
       let p = idle-own u 18 a refl in
-      let q : getD (k .places) c client ≡ 3 = omega arith in
+      let q : getD (k .places) c clientPlace ≡ 3 = omega arith in
       record {
         faultless = rw (m .faultless, idle-kind u, le-ltb 18 c (omega arith), p, q);
         sized = sized-two (k .places) 18 4 c 4 (m .sized);
         placed =
             put-two (k .places) 18 4 c 4 (m .sized) a b _
-            (rw (m .tx-own, m .rx-own, u) (own-wire (rw (e, ne-eqb c 18 (λ z. omega arith)) at (idle-before u 18 a))))
-            (rw (m .tx-own, m .rx-own, u, d, same c) (rx-wire x))
+            (rw (m .tx-own, m .rx-own, u) (own-transfer (rw (e, ne-eqb c 18 (λ z. omega arith)) at (idle-before u 18 a))))
+            (rw (m .tx-own, m .rx-own, u, d, same c) (rx-transfer x))
             (λ b h f g. rw (f, g) (rw (e, m .buf-own, u, f, g) at (m .placed b h)));
         kind-is = refl;
         write-is = refl;
@@ -156,7 +186,7 @@ module _ (r : Buffers) (k : Page) (m : Match r k) where
 
   -- a frame write begins, from the buffer in the transmit place
   pub begins-write : (c l n : ℕ) → r .«tx_buf» ≡ Held c l → isIdle (r .under) ≡ true
-      → Match (recorded (r .«spi_tx») (r .«spi_rx») false n Empty (r .«rx_buf») (FrameWrite c l) r) (taken 4 c 18 k)
+      → Match (recordWith (r .«spi_tx») (r .«spi_rx») false n Empty (r .«rx_buf») (FrameWrite c l) r) (taken 4 c 18 k)
   begins-write c l n e i =
       let u = idle-is (r .under) i in
       let h = low c (rw e at (lows .0)) in
@@ -165,15 +195,15 @@ module _ (r : Buffers) (k : Page) (m : Match r k) where
       let d = ne-eqb 18 c (λ z. omega arith) in
       let f = ne-eqb c 18 (λ z. omega arith) in
       let x = rw (e, same c, d) at (idle-before u c a) in
-      let p : getD (k .places) c client ≡ 2 = omega arith in
+      let p : getD (k .places) c clientPlace ≡ 2 = omega arith in
       let q = idle-own u 18 b refl in
       record {
         faultless = rw (m .faultless, idle-kind u, le-ltb 18 c (omega arith), p, q);
         sized = sized-two (k .places) c 4 18 4 (m .sized);
         placed =
             put-two (k .places) c 4 18 4 (m .sized) a b _
-            (rw (m .tx-own, m .rx-own, u, d, same c) (tx-wire x))
-            (rw (m .tx-own, m .rx-own, u) (own-wire (rw (e, f) at (idle-before u 18 b))))
+            (rw (m .tx-own, m .rx-own, u, d, same c) (tx-transfer x))
+            (rw (m .tx-own, m .rx-own, u) (own-transfer (rw (e, f) at (idle-before u 18 b))))
             (λ b h f g. rw (g, f) (rw (e, m .buf-own, u, g, f) at (m .placed b h)));
         kind-is = refl;
         write-is = refl;
@@ -186,15 +216,15 @@ module _ (r : Buffers) (k : Page) (m : Match r k) where
       }
 
   -- the transfer ends; the place that a frame transfer's buffer came from is empty
-  ends-register : r .under ≡ Register → Match (back Register r) (ended k)
+  ends-register : r .under ≡ Register → Match (buffersBack Register r) (ended k)
   ends-register u =
       let (l, h) = register-kind (k .kind) (rw u at (m .kind-is)) in
       let a : 16 < 19 = omega arith in
       let b : 17 < 19 = omega arith in
       let x = rw (m .tx-own, m .rx-own, m .buf-own, u) at (before 16 a) in
       let y = rw (m .tx-own, m .rx-own, m .buf-own, u) at (before 17 b) in
-      let p : getD (k .places) 16 client ≡ 4 = omega arith in
-      let q : getD (k .places) 17 client ≡ 4 = omega arith in
+      let p : getD (k .places) 16 clientPlace ≡ 4 = omega arith in
+      let q : getD (k .places) 17 clientPlace ≡ 4 = omega arith in
       rw (
         ne-eqb (k .kind) 0 (λ z. omega arith),
         ne-eqb (k .kind) 3 (λ z. omega arith),
@@ -207,7 +237,7 @@ module _ (r : Buffers) (k : Page) (m : Match r k) where
         faultless = m .faultless;
         sized = sized-two (k .places) 16 1 17 1 (m .sized);
         placed =
-            put-two (k .places) 16 1 17 1 (m .sized) a b (placesOf (back Register r)) (wire-own x) (wire-own y)
+            put-two (k .places) 16 1 17 1 (m .sized) a b (placesOf (buffersBack Register r)) (transfer-own x) (transfer-own y)
             (λ b h f g. rw (f, g) (rw (m .tx-own, m .rx-own, u, f, g) at (m .placed b h)));
         kind-is = refl;
         write-is = refl;
@@ -219,7 +249,7 @@ module _ (r : Buffers) (k : Page) (m : Match r k) where
         below = rw (lows .0, lows .1);
       })
 
-  ends-read : (c l : ℕ) → r .under ≡ FrameRead c l → has (r .«rx_buf») ≡ false → Match (back (FrameRead c l) r) (ended k)
+  ends-read : (c l : ℕ) → r .under ≡ FrameRead c l → isHeld (r .«rx_buf») ≡ false → Match (buffersBack (FrameRead c l) r) (ended k)
   ends-read c l u e =
       let t = empty-is (r .«rx_buf») e in
       let h = low c (rw u at (lows .2)) in
@@ -228,15 +258,15 @@ module _ (r : Buffers) (k : Page) (m : Match r k) where
       let d = ne-eqb 18 c (λ z. omega arith) in
       let x = rw (m .tx-own, m .rx-own, m .buf-own, u, t) at (before 18 a) in
       let y = rw (m .buf-own, u, t, d, same c) at (before c b) in
-      let p : getD (k .places) 18 client ≡ 4 = omega arith in
-      let q : getD (k .places) c client ≡ 4 = omega arith in
+      let p : getD (k .places) 18 clientPlace ≡ 4 = omega arith in
+      let q : getD (k .places) c clientPlace ≡ 4 = omega arith in
       rw (plain-kind (k .kind) 3 (rw u at (m .kind-is)) (λ z. omega arith), m .write-is, m .read-is, u)
       (record {
         faultless = m .faultless;
         sized = sized-two (k .places) 18 1 c 3 (m .sized);
         placed =
-            put-two (k .places) 18 1 c 3 (m .sized) a b (placesOf (back (FrameRead c l) r))
-            (rw (m .tx-own, m .rx-own, u, ne-eqb c 18 (λ z. omega arith)) (wire-own x)) (rw (d, same c) (wire-rx y))
+            put-two (k .places) 18 1 c 3 (m .sized) a b (placesOf (buffersBack (FrameRead c l) r))
+            (rw (m .tx-own, m .rx-own, u, ne-eqb c 18 (λ z. omega arith)) (transfer-own x)) (rw (d, same c) (transfer-rx y))
             (λ b h f g. rw (f, g) (rw (m .buf-own, u, t, f, g) at (m .placed b h)));
         kind-is = refl;
         write-is = refl;
@@ -248,7 +278,7 @@ module _ (r : Buffers) (k : Page) (m : Match r k) where
         below = rw (lows .0, rw u at (lows .2));
       })
 
-  ends-write : (c l : ℕ) → r .under ≡ FrameWrite c l → has (r .«tx_buf») ≡ false → Match (back (FrameWrite c l) r) (ended k)
+  ends-write : (c l : ℕ) → r .under ≡ FrameWrite c l → isHeld (r .«tx_buf») ≡ false → Match (buffersBack (FrameWrite c l) r) (ended k)
   ends-write c l u e =
       let t = empty-is (r .«tx_buf») e in
       let h = low c (rw u at (lows .2)) in
@@ -258,15 +288,15 @@ module _ (r : Buffers) (k : Page) (m : Match r k) where
       let i = ne-eqb c 18 (λ z. omega arith) in
       let x = rw (m .buf-own, u, t, d, same c) at (before c a) in
       let y = rw (m .tx-own, m .rx-own, m .buf-own, u, t) at (before 18 b) in
-      let p : getD (k .places) c client ≡ 4 = omega arith in
-      let q : getD (k .places) 18 client ≡ 4 = omega arith in
+      let p : getD (k .places) c clientPlace ≡ 4 = omega arith in
+      let q : getD (k .places) 18 clientPlace ≡ 4 = omega arith in
       rw (plain-kind (k .kind) 4 (rw u at (m .kind-is)) (λ z. omega arith), m .write-is, m .read-is, u)
       (record {
         faultless = m .faultless;
         sized = sized-two (k .places) c 2 18 1 (m .sized);
         placed =
-            put-two (k .places) c 2 18 1 (m .sized) a b (placesOf (back (FrameWrite c l) r))
-            (rw (d, same c) (wire-tx x)) (rw (m .tx-own, m .rx-own, u, i) (wire-own y))
+            put-two (k .places) c 2 18 1 (m .sized) a b (placesOf (buffersBack (FrameWrite c l) r))
+            (rw (d, same c) (transfer-tx x)) (rw (m .tx-own, m .rx-own, u, i) (transfer-own y))
             (λ b h f g. rw (f, g) (rw (m .buf-own, u, t, g, f) at (m .placed b h)));
         kind-is = refl;
         write-is = refl;
@@ -278,20 +308,20 @@ module _ (r : Buffers) (k : Page) (m : Match r k) where
         below = rw (lows .1, rw u at (lows .2));
       })
 
-  pub ends : isIdle (r .under) ≡ false → heldBesides r ≡ false → Match (back (r .under) r) (ended k)
+  pub ends : isIdle (r .under) ≡ false → heldBesides r ≡ false → Match (buffersBack (r .under) r) (ended k)
   ends i h = go (r .under) refl
     where
-      go : (u : Under) → r .under ≡ u → Match (back u r) (ended k)
+      go : (u : Under) → r .under ≡ u → Match (buffersBack u r) (ended k)
       go Idle e = let z : _≡_ {A = ℕ} 0 1 = cc in absurd (omega arith)
       go Register e = ends-register e
       go (FrameRead c l) e = ends-read c l e (rw (e, and-false, and-true) at h)
       go (FrameWrite c l) e = ends-write c l e (rw (e, and-true, and-false, or-false) at h)
 
   -- a client's buffer comes or goes: from place q to place p, and the client's places are then x and y
-  one-moved : (x y : Slot) (n c p q a h d : ℕ) → c < 16 → getD (k .places) c client ≡ q
-      → a + one (not (eqb q client)) + (k .handed + k .dropped) ≡ k .accepted + (h + d) + one (not (eqb p client))
+  one-moved : (x y : Slot) (n c p q a h d : ℕ) → c < 16 → getD (k .places) c clientPlace ≡ q
+      → a + one (not (eqb q clientPlace)) + (k .handed + k .dropped) ≡ k .accepted + (h + d) + one (not (eqb p clientPlace))
       → slotAbove x ≡ false → slotAbove y ≡ false → placesOf (lent x y n r) c ≡ only p
-      → ((b : ℕ) → b < 19 → eqb c b ≡ false → placesOf (lent x y n r) b ≡ only (getD (k .places) b client))
+      → ((b : ℕ) → b < 19 → eqb c b ≡ false → placesOf (lent x y n r) b ≡ only (getD (k .places) b clientPlace))
       → Match (lent x y n r) (page (set (k .places) c p) (k .kind) (k .write) (k .read) a h d (k .fault || missing c q (k .places)))
   one-moved x y n c p q a h d i e s t u here else =
       let z : c < length (k .places) = omega (arith, m .sized) in
@@ -326,7 +356,7 @@ module _ (r : Buffers) (k : Page) (m : Match r k) where
       (λ b i f. rw (e, f) at (m .placed b i))
 
   -- a client's buffer is lent for sending, or for receiving
-  pub lends-tx : (b l n : ℕ) → b < 16 → has (r .«tx_buf») ≡ false → recordHas r b ≡ false
+  pub lends-tx : (b l n : ℕ) → b < 16 → isHeld (r .«tx_buf») ≡ false → recordHas r b ≡ false
       → Match (lent (Held b l) (r .«rx_buf») n r) (brought b transmitPlace k)
   lends-tx b l n h e f =
       let t = empty-is (r .«tx_buf») e in
@@ -334,7 +364,7 @@ module _ (r : Buffers) (k : Page) (m : Match r k) where
       one-moved (Held b l) (r .«rx_buf») n b 2 0 _ _ _ h p (omega arith) (le-ltb 15 b (omega arith)) (lows .1)
       (rw (same b) (client-tx (rw (t, p) at (before b (omega arith))))) (λ c i g. rw g (rw t at (m .placed c i)))
 
-  pub lends-rx : (b l n : ℕ) → b < 16 → has (r .«rx_buf») ≡ false → recordHas r b ≡ false
+  pub lends-rx : (b l n : ℕ) → b < 16 → isHeld (r .«rx_buf») ≡ false → recordHas r b ≡ false
       → Match (lent (r .«tx_buf») (Held b l) n r) (brought b receivePlace k)
   lends-rx b l n h e f =
       let t = empty-is (r .«rx_buf») e in
@@ -384,7 +414,7 @@ module _ (r : Buffers) (k : Page) (m : Match r k) where
   somewhere = let o = own-in (r .under) in rw (own-has 16 (o .0), own-has 17 (o .1), own-has 18 (o .2))
 
 -- a new driver and a new book agree
-new-places : (b : ℕ) → b < 19 → when (eqb 16 b || (eqb 17 b || eqb 18 b)) ownPlace [] ≡ only (getD (newPage .places) b client)
+new-places : (b : ℕ) → b < 19 → when (eqb 16 b || (eqb 17 b || eqb 18 b)) ownPlace [] ≡ only (getD (newPage .places) b clientPlace)
 new-places b h =
     by-flag (eqb 16 b) (λ p. rw (← eqb-true 16 b p))
     (λ p. by-flag (eqb 17 b) (λ q. rw (← eqb-true 17 b q))
@@ -395,7 +425,8 @@ new-places b h =
     let z = eqb-false 18 b s in
     let i : b < 16 = omega arith in
     rw (p, q, s)
-    (sym (ap only (List·getD-append (replicate 16 client) (ownPlace ∷ ownPlace ∷ ownPlace ∷ []) client b i ∙ getD-replicate 16 b client client i))))))
+    (sym (ap only (List·getD-append (replicate 16 clientPlace) (ownPlace ∷ ownPlace ∷ ownPlace ∷ []) clientPlace b i ∙ getD-replicate 16 b
+    clientPlace clientPlace i))))))
 
 pub match-new : (l c : ℕ) → Match (newDriver l c .buffers) newPage
 unfolding away

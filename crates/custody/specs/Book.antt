@@ -6,9 +6,27 @@ use mathlib.Core.List.{List, [], _∷_, _++_}
 use lib.Dec.{eqb, ltb}
 use lib.ListN.{getD, set, replicate}
 use Rattle.rf233.specs.Answer.{answerNo}
-use Rattle.rf233.specs.Place.{client, ownPlace, transmitPlace, receivePlace, wirePlace}
+use Rattle.rf233.specs.Place.{clientPlace, ownPlace, transmitPlace, receivePlace, transferPlace}
 use Rattle.rf233.specs.declared.action.Action.{Action}
-use Rattle.rf233.specs.declared.action.Action.the-variants.{Nothing, Power, Sent, Received, ConfigDone, Dropped, IrqMakeInput, IrqClear, IrqSetFloatingState, IrqEnableInterrupts, IrqDisableInterrupts, SleepMakeOutput, SleepSet, SleepClear, ResetMakeOutput, ResetClear, ResetSet}
+use Rattle.rf233.specs.declared.action.Action.the-variants.{
+  Nothing,
+  Power,
+  Sent,
+  Received,
+  ConfigDone,
+  Dropped,
+  IrqMakeInput,
+  IrqClear,
+  IrqSetFloatingState,
+  IrqEnableInterrupts,
+  IrqDisableInterrupts,
+  SleepMakeOutput,
+  SleepSet,
+  SleepClear,
+  ResetMakeOutput,
+  ResetClear,
+  ResetSet,
+}
 use Rattle.rf233.specs.declared.action.Item.{Item}
 use Rattle.rf233.specs.declared.answer.Reply.{Reply}
 
@@ -29,7 +47,7 @@ page l k w r a h d f =
 
 -- at first 16, 17 and 18 are in their own places, 0 to 15 with the client; no transfer; counts 0
 abbrev pub newPage : Page
-newPage = page (replicate 16 client ++ (ownPlace ∷ ownPlace ∷ ownPlace ∷ [])) 0 0 0 0 0 0 false
+newPage = page (replicate 16 clientPlace ++ (ownPlace ∷ ownPlace ∷ ownPlace ∷ [])) 0 0 0 0 0 0 false
 
 -- a call, as far as the book looks at its arguments
 pub data Fed : Type 0 where
@@ -38,13 +56,13 @@ pub data Fed : Type 0 where
 
 -- buffer b is not at place p; one above 18 is not at any
 abbrev pub missing : ℕ → ℕ → List ℕ → Bool
-missing b p l = ltb 18 b || not (eqb (getD l b client) p)
+missing b p l = ltb 18 b || not (eqb (getD l b clientPlace) p)
 
 -- `transmit` or receive buffer: from the client to the transmit or receive place; accepted + 1
 abbrev pub brought : ℕ → ℕ → Page → Page
 brought b p k =
     page (set (k .places) b p) (k .kind) (k .write) (k .read) (k .accepted + 1) (k .handed) (k .dropped)
-    (k .fault || missing b client (k .places))
+    (k .fault || missing b clientPlace (k .places))
 
 -- where a transfer's two buffers go when it ends: own buffers to their own places, a frame write's other buffer to the transmit place, a
 -- frame read's to the receive place
@@ -69,7 +87,7 @@ called other k = k
 -- a notice or a drop: buffer b goes from place p to the client; m and n are added to handed back and dropped
 abbrev pub given : ℕ → ℕ → ℕ → ℕ → Page → Page
 given b p m n k =
-    page (set (k .places) b client) (k .kind) (k .write) (k .read) (k .accepted) (k .handed + m) (k .dropped + n)
+    page (set (k .places) b clientPlace) (k .kind) (k .write) (k .read) (k .accepted) (k .handed + m) (k .dropped + n)
     (k .fault || missing b p (k .places))
 
 -- an action: a sent notice or a drop from the transmit place, a received notice from the receive place; others nothing
@@ -111,7 +129,7 @@ namesOwn k w r = cond (eqb k 3) (eqb w 18) (cond (eqb k 4) (eqb r 18) (eqb w 16 
 -- a transfer, none being under way: it takes the two buffers that it names
 abbrev pub taken : ℕ → ℕ → ℕ → Page → Page
 taken n w r k =
-    page (set (set (k .places) w wirePlace) r wirePlace) n w r (k .accepted) (k .handed) (k .dropped)
+    page (set (set (k .places) w transferPlace) r transferPlace) n w r (k .accepted) (k .handed) (k .dropped)
     (k .fault || (not (eqb (k .kind) 0) || (ltb 4 n || (not (namesOwn n w r)
     || (missing w (writeFrom n) (k .places) || missing r (readFrom n) (k .places))))))
 

@@ -11,10 +11,13 @@ use Rattle.rf233.specs.Action.{actions}
 use Rattle.rf233.specs.Answer.{quiet}
 use Rattle.custody.specs.Book.{Page, Fed, newPage, entered}
 use Rattle.custody.specs.Book.Fed.{lendsTransmit, lendsReceive, completes, other}
-use Rattle.rf233.specs.Calls.{startCall, stopCall, commitCall, firedCall, completionCall, transmitCall, receiveBufferCall, resetCall, setAddress, setAddressLong, setPan, setPower, setChannel, setClient}
+use Rattle.rf233.specs.Config.{startCall, stopCall, commitCall, resetCall, setAddress, setAddressLong, setPan, setPower, setChannel}
+use Rattle.rf233.specs.Kernel.{firedCall, completionCall}
+use Rattle.rf233.specs.Data.{transmitCall, receiveBufferCall}
+use Rattle.rf233.specs.Listeners.{setClient}
 use Rattle.rf233.specs.Driver.{Client}
-use Rattle.rf233.specs.New.{newCall}
-use Rattle.rf233.specs.Place.{client, placesOf}
+use Rattle.rf233.specs.Create.{newCall}
+use Rattle.rf233.specs.Place.{clientPlace, placesOf}
 use Rattle.rf233.specs.Record.{recordHas, one}
 use Rattle.rf233.specs.declared.answer.Outcome.{Outcome}
 use Rattle.rf233.specs.declared.driver.Buffers.{Buffers}
@@ -95,7 +98,7 @@ newWorld l c = record { driver = newCall l c .driver; book = newPage }
 
 -- the place p, and no other; with the client a buffer is at none
 abbrev pub only : ℕ → List ℕ
-only p = cond (eqb p client) [] (p ∷ [])
+only p = cond (eqb p clientPlace) [] (p ∷ [])
 
 -- how many of the buffers below n the record has
 abbrev pub heldBelow : Buffers → ℕ → ℕ
@@ -129,7 +132,7 @@ pub record Kept (w : World) : Type 0 where
   -- no fault
   pub faultless : w .book .fault ≡ false
   -- the driver's record has each buffer where the book has it and nowhere else
-  pub placed : (b : ℕ) → b < 19 → placesOf (w .driver .buffers) b ≡ only (getD (w .book .places) b client)
+  pub placed : (b : ℕ) → b < 19 → placesOf (w .driver .buffers) b ≡ only (getD (w .book .places) b clientPlace)
   -- a transfer is under way in the record exactly when in the book, with the same buffers
   pub kind : kindOf (w .book .kind) ≡ underKind (w .driver .buffers .under)
   pub write : w .book .write ≡ underWrite (w .driver .buffers .under)

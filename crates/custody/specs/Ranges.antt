@@ -3,11 +3,29 @@ use Prim.Native.Nat.{ℕ}
 use mathlib.Core.Bool.{Bool, true, _&&_, cond}
 use mathlib.Core.List.{List, [], _∷_}
 use lib.Dec.{T, eqb, leb, ltb}
-use Rattle.rf233.specs.Record.{within}
+use Rattle.rf233.specs.Choice.{within}
 use Rattle.rf233.specs.Answer.{answerNo}
 use Rattle.rf233.specs.State.{stateNo}
 use Rattle.rf233.specs.declared.action.Action.{Action}
-use Rattle.rf233.specs.declared.action.Action.the-variants.{Nothing, Power, Sent, Received, ConfigDone, Dropped, IrqMakeInput, IrqClear, IrqSetFloatingState, IrqEnableInterrupts, IrqDisableInterrupts, SleepMakeOutput, SleepSet, SleepClear, ResetMakeOutput, ResetClear, ResetSet}
+use Rattle.rf233.specs.declared.action.Action.the-variants.{
+  Nothing,
+  Power,
+  Sent,
+  Received,
+  ConfigDone,
+  Dropped,
+  IrqMakeInput,
+  IrqClear,
+  IrqSetFloatingState,
+  IrqEnableInterrupts,
+  IrqDisableInterrupts,
+  SleepMakeOutput,
+  SleepSet,
+  SleepClear,
+  ResetMakeOutput,
+  ResetClear,
+  ResetSet,
+}
 use Rattle.rf233.specs.declared.action.Item.{Item}
 use Rattle.rf233.specs.declared.answer.Outcome.{Outcome}
 use Rattle.rf233.specs.declared.answer.Reply.{Reply}

@@ -7,9 +7,26 @@ use rf233::answer::answer_number;
 use rf233::transfer::Transfer;
 ghost use mathlib.Core.Path.{_≡_};
 ghost use lib.ListN.{getD, set};
-ghost use Rattle.custody.specs.Book.{newPage, missing, brought, endPlaces, ended, called, given, noted, notedAll, writeFrom, readFrom, namesOwn, taken, begun, turnedDown, entered};
+ghost use Rattle.custody.specs.Book.{
+  newPage,
+  missing,
+  brought,
+  endPlaces,
+  ended,
+  called,
+  given,
+  noted,
+  notedAll,
+  writeFrom,
+  readFrom,
+  namesOwn,
+  taken,
+  begun,
+  turnedDown,
+  entered,
+};
 ghost use Rattle.custody.specs.BookCode.{wrapped, pageOf, fedOf};
-ghost use Rattle.rf233.specs.Place.{client};
+ghost use Rattle.rf233.specs.Place.{clientPlace};
 
 // The 19 buffers' places (0 with the client, 1 its own, 2 transmit, 3 receive, 4 the transfer under way); the transfer under way by its
 // kind (0 none) and its two buffers; the counts; whether a fault was found.
@@ -49,7 +66,7 @@ pub fn new_book() -> Book
 
 // Where the buffer is, of those that there are.
 fn place_of(places: [u8; 19], buffer: u8) -> u8
-    ensures { λ r. ⌜ r ≡ getD places buffer client ⌝ }
+    ensures { λ r. ⌜ r ≡ getD places buffer clientPlace ⌝ }
 {
     let at = buffer as usize;
     if at < 19 { places[at] } else { 0 }

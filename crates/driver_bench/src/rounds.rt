@@ -2,8 +2,8 @@
 use crate::digest::Digest;
 use crate::digest::mixed;
 use crate::digest::no_digest;
-use rf233::create::new;
 use rf233::answer::Outcome;
+use rf233::create::new;
 use rf233::driver::Driver;
 use scenario::event::complete;
 use scenario::event::is_completion;
@@ -46,8 +46,8 @@ fn step(run: Run, events: &[u8], pool: &mut [u8]) -> Run {
 }
 
 // The events, one after another.
-fn round(begun: Run, events: &[u8], pool: &mut [u8]) -> Run {
-    let mut run = begun;
+fn round(from: Run, events: &[u8], pool: &mut [u8]) -> Run {
+    let mut run = from;
     let mut i = 0;
     while i < events.len() {
         run = step(run, &events[i..], pool);
@@ -60,8 +60,8 @@ fn round(begun: Run, events: &[u8], pool: &mut [u8]) -> Run {
     run
 }
 
-fn all_rounds(begun: Run, events: &[u8], rounds: u32, pool: &mut [u8]) -> Run {
-    let mut run = begun;
+fn all_rounds(from: Run, events: &[u8], rounds: u32, pool: &mut [u8]) -> Run {
+    let mut run = from;
     let mut left = rounds;
     while 0 < left {
         run = round(run, events, pool);
@@ -71,7 +71,7 @@ fn all_rounds(begun: Run, events: &[u8], rounds: u32, pool: &mut [u8]) -> Run {
 }
 
 pub fn run_scenario(setup: &[u8], events: &[u8], rounds: u32, pool: &mut [u8]) -> Digest {
-    let begun = round(first(), setup, pool);
-    let ended = all_rounds(begun, events, rounds, pool);
+    let from = round(first(), setup, pool);
+    let ended = all_rounds(from, events, rounds, pool);
     ended.digest
 }

@@ -33,7 +33,8 @@ module _ (bs : List ℕ) (byte : (i : ℕ) → getD bs i 0 < 256) where
   unfolding bytesAt
   first-byte at e = e ∙ ap (λ (i : ℕ). getD bs i 0) (sym (add-zero at)) ∙ omega arith
 
-  pub next-byte : (n at : ℕ) {a b : ℕ} → n < 8 → a ≡ bytesAt n bs at → b ≡ getD bs (at + n) 0 → bitOr a (b * 2 ^ (8 * n) % 2 ^ 64) ≡ bytesAt (suc n) bs at
+  pub next-byte : (n at : ℕ) {a b : ℕ} → n < 8 → a ≡ bytesAt n bs at → b ≡ getD bs (at + n) 0
+      → bitOr a (b * 2 ^ (8 * n) % 2 ^ 64) ≡ bytesAt (suc n) bs at
   unfolding bytesAt
   next-byte n at {a} {b} h ea eb =
       let g : ℕ = getD bs (at + n) 0 in
@@ -43,7 +44,8 @@ module _ (bs : List ℕ) (byte : (i : ℕ) → getD bs i 0 < 256) where
       ∙ add-comm (g * 2 ^ (8 * n)) (bytesAt n bs at)
 
   -- in the register, one byte more above the others is the next step
-  byte-more : (r n at : ℕ) → byteStep (turns (8 * n) (r ⊕ bytesAt n bs at)) (getD bs (at + n) 0) ≡ turns (8 * suc n) (r ⊕ bytesAt (suc n) bs at)
+  byte-more : (r n at : ℕ) → byteStep (turns (8 * n) (r ⊕ bytesAt n bs at)) (getD bs (at + n) 0) ≡ turns (8 * suc n)
+      (r ⊕ bytesAt (suc n) bs at)
   unfolding bytesAt
   byte-more r n at =
       let b : ℕ = getD bs (at + n) 0 in
@@ -69,7 +71,8 @@ module _ (bs : List ℕ) (byte : (i : ℕ) → getD bs i 0 < 256) where
       ∙ byte-more (fcsOf (take at bs)) n at
 
   -- eight bytes more: z stands for the register 64 steps on, and w is the bytes
-  pub done-word : {y w at : ℕ} (z : ℕ) → Done bs y at → at + 8 ≤ length bs → reduced 64 z ≡ reduced 128 y → w ≡ bytesAt 8 bs at → Done bs (z ⊕ w) (at + 8)
+  pub done-word : {y w at : ℕ} (z : ℕ) → Done bs y at → at + 8 ≤ length bs → reduced 64 z ≡ reduced 128 y → w ≡ bytesAt 8 bs at
+      → Done bs (z ⊕ w) (at + 8)
   done-word {y} {w} {at} z d room folded word =
       record {
         within = omega arith;
@@ -80,7 +83,8 @@ module _ (bs : List ℕ) (byte : (i : ℕ) → getD bs i 0 < 256) where
       }
 
   -- eight bytes from a place that follows eight others
-  eight : (at next : ℕ) {w : ℕ} → next ≡ at + 8 → next ≤ length bs → w ≡ bytesAt 8 bs at → turns 64 (fcsOf (take at bs) ⊕ w) ≡ fcsOf (take next bs)
+  eight : (at next : ℕ) {w : ℕ} → next ≡ at + 8 → next ≤ length bs → w ≡ bytesAt 8 bs at
+      → turns 64 (fcsOf (take at bs) ⊕ w) ≡ fcsOf (take next bs)
   eight at next e room word =
       ap (λ (x : ℕ). turns 64 (fcsOf (take at bs) ⊕ x)) word
       ∙ sym (fcs-bytes 8 at (omega arith))

@@ -9,7 +9,7 @@ use lib.Dec.{T, eqb, eqb→eq}
 use lib.Pow.{pow-pos}
 use lib.Bits.{bitAnd, bitXor, and-mask, xor-block}
 use Rattle.fcs.proofs.Xor.{_⊕_, ⊕-shr, ⊕-mod, ⊕-swap}
-use Rattle.fcs.proofs.Below.{every, below}
+use Rattle.laws.proofs.Logic.{all-below, below-at}
 use Rattle.fcs.proofs.Turns.{Linear, basis, turns, turns-linear}
 
 infixl 20 _xor_
@@ -65,8 +65,8 @@ unfoldable pub agree : Form → Form → ℕ → Bool
 agree f g j = eqb (value f (2 ^ j)) (value g (2 ^ j))
 
 -- tried at the first k powers of 2, they agree below 2 ^ k
-pub same : (f g : Form) (k : ℕ) → T (every (agree f g) k) → (x : ℕ) → x < 2 ^ k → value f x ≡ value g x
+pub same : (f g : Form) (k : ℕ) → T (all-below (agree f g) k) → (x : ℕ) → x < 2 ^ k → value f x ≡ value g x
 unfolding agree
 same f g k t x h =
     basis (value f) (value g) (linear f) (linear g) k
-    (λ j l. eqb→eq (value f (2 ^ j)) (value g (2 ^ j)) (below (agree f g) k t j l)) x h
+    (λ j l. eqb→eq (value f (2 ^ j)) (value g (2 ^ j)) (below-at (agree f g) k t j l)) x h

@@ -8,7 +8,7 @@ use lib.Dec.{T}
 use lib.Pow.{high, low}
 use Rattle.fcs.specs.Word.{reduced, four}
 use Rattle.fcs.proofs.Xor.{_⊕_, ⊕-swap, ⊕-zero, ⊕-zero-left}
-use Rattle.fcs.proofs.Below.{every}
+use Rattle.laws.proofs.Logic.{all-below}
 use Rattle.fcs.proofs.Turns.{flip, taken, turn, turns, turns-linear, turns-add}
 use Rattle.fcs.proofs.Form.{Form, it, _xor_, shl, shr, rem, turned, value, agree, same}
 use Rattle.fcs.proofs.Register.{reduced-turns}
@@ -50,7 +50,7 @@ abbrev next : Form
 next = stands (w₀ xor l xor shr 16 p xor shl 64 48 q) (p xor shr 16 q xor shl 64 48 l) (q xor shr 16 l) l
 
 -- the test
-right : T (every (agree next (turned 256 held)) 256)
+right : T (all-below (agree next (turned 256 held)) 256)
 unfolding agree turns turn taken flip _⊕_
 right = tt
 
@@ -70,7 +70,8 @@ pub four-turns : (a b c d : ℕ) → four a b c d ≡ standing a b c d
 unfolding four _⊕_
 four-turns a b c d =
     let one : reduced 64 a ≡ turns 64 a = reduced-turns 64 a in
-    let two : reduced 64 (reduced 64 a ⊕ b) ≡ turns 64 (turns 64 a ⊕ b) = reduced-turns 64 (reduced 64 a ⊕ b) ∙ ap (λ (x : ℕ). turns 64 (x ⊕ b)) one in
+    let two : reduced 64 (reduced 64 a ⊕ b) ≡ turns 64 (turns 64 a ⊕ b) = reduced-turns 64 (reduced 64 a ⊕ b) ∙ ap
+    (λ (x : ℕ). turns 64 (x ⊕ b)) one in
     let three : reduced 64 (reduced 64 (reduced 64 a ⊕ b) ⊕ c) ≡ turns 64 (turns 64 (turns 64 a ⊕ b) ⊕ c) =
     reduced-turns 64 (reduced 64 (reduced 64 a ⊕ b) ⊕ c) ∙ ap (λ (x : ℕ). turns 64 (x ⊕ c)) two in
     reduced-turns 64 (reduced 64 (reduced 64 (reduced 64 a ⊕ b) ⊕ c) ⊕ d) ∙ ap (λ (x : ℕ). turns 64 (x ⊕ d)) three
@@ -83,7 +84,8 @@ folded-in y z w e =
     ∙ sym (turns-linear 64 (turns 64 y) w)
 
 -- one word for four, each folded into the next
-pub one-of-four : (a b c d x y z : ℕ) → reduced 64 x ≡ reduced 128 a → reduced 64 y ≡ reduced 128 (x ⊕ b) → reduced 64 z ≡ reduced 128 (y ⊕ c)
+pub one-of-four : (a b c d x y z : ℕ) → reduced 64 x ≡ reduced 128 a → reduced 64 y ≡ reduced 128 (x ⊕ b)
+    → reduced 64 z ≡ reduced 128 (y ⊕ c)
     → reduced 64 (z ⊕ d) ≡ four a b c d
 one-of-four a b c d x y z e₁ e₂ e₃ =
     reduced-turns 64 (z ⊕ d)

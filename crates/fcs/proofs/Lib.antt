@@ -1,6 +1,5 @@
 -- The laws of the check. What other crates cite: `Register` (the check is below 65,536, and the check of a list in two parts) and `Flip`.
 mod Xor
-mod Below
 mod Turns
 mod Form
 pub mod Register

@@ -95,7 +95,8 @@ fcs-more bs i h =
     ap (λ (n : ℕ). fcsOf (take n bs)) (add-one i) ∙ ap fcsOf (take-suc bs i 0 h) ∙ fcs-append (take i bs) (getD bs i 0 ∷ [])
 
 -- the next byte, and the end of the list
-pub from-next : (r : ℕ) (bs : List ℕ) (at : ℕ) → at < length bs → fcsFrom r (drop at bs) ≡ fcsFrom (byteStep r (getD bs at 0)) (drop (at + 1) bs)
+pub from-next : (r : ℕ) (bs : List ℕ) (at : ℕ) → at < length bs
+    → fcsFrom r (drop at bs) ≡ fcsFrom (byteStep r (getD bs at 0)) (drop (at + 1) bs)
 unfolding fcsFrom
 from-next r bs at h = ap (fcsFrom r) (drop-cons bs at 0 h ∙ ap (λ (n : ℕ). getD bs at 0 ∷ drop n bs) (sym (add-one at)))
 

@@ -154,7 +154,8 @@ turn-injective : (x y : ℕ) → x < 2 ^ 16 → y < 2 ^ 16 → turn x ≡ turn y
 turn-injective x y hx hy e =
     let odd : x % 2 ≡ y % 2 = sym (turn-top x hx) ∙ ap (λ (z : ℕ). z / 2 ^ 15) e ∙ turn-top y hy in
     let half : x / 2 ≡ y / 2 = ⊕-same (x / 2) (y / 2) (x % 2 * generator)
-    (⊕-comm (x / 2) (x % 2 * generator) ∙ sym (turn-is x) ∙ e ∙ turn-is y ∙ ap (λ (d : ℕ). d * generator ⊕ y / 2) (sym odd) ∙ ⊕-comm (x % 2 * generator) (y / 2)) in
+    (⊕-comm (x / 2) (x % 2 * generator) ∙ sym (turn-is x) ∙ e ∙ turn-is y ∙ ap (λ (d : ℕ). d * generator ⊕ y / 2) (sym odd) ∙ ⊕-comm
+    (x % 2 * generator) (y / 2)) in
     omega arith
 
 pub turns-injective : (n x y : ℕ) → x < 2 ^ 16 → y < 2 ^ 16 → turns n x ≡ turns n y → x ≡ y

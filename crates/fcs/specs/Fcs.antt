@@ -1,14 +1,17 @@
--- The frame check sequence (FCS) of IEEE 802.15.4, bit by bit: the remainder modulo x^16 + x^12 + x^5 + 1, from 0, bit 0 of each byte first.
+-- The frame check sequence (FCS) of IEEE 802.15.4, bit by bit: the remainder modulo x^16 + x^12 + x^5 + 1, from 0, bit 0 of each byte
+-- first.
 -- Assumes nothing.
 use Prim.Native.Nat.{ℕ, zero, suc, _*_, _/_, _%_}
 use mathlib.Core.List.{List, [], _∷_}
 use lib.Bits.{bitXor, differ}
 
--- The generator without its x^16. Bit 0 of the register stands for x^15 and bit 15 for 1, as bit 0 of a byte goes first: x^12 is bit 3, x^5 bit 10, 1 bit 15.
+-- The generator without its x^16. Bit 0 of the register stands for x^15 and bit 15 for 1, as bit 0 of a byte goes first: x^12 is bit 3,
+-- x^5 bit 10, 1 bit 15.
 abbrev pub generator : ℕ
 generator = 0x8408
 
--- One data bit: the register moves one place towards bit 0; where the bit that leaves it differs from the data bit, the generator is taken away (xor).
+-- One data bit: the register moves one place towards bit 0; where the bit that leaves it differs from the data bit, the generator is taken
+-- away (xor).
 unfoldable pub bitStep : ℕ → ℕ → ℕ
 bitStep r d = bitXor (r / 2) (differ (r % 2) d * generator)
 

@@ -1,8 +1,8 @@
 // The three lines at the end of the input: the book's counts, where the book has each buffer, and where the driver's record has it.
 use crate::run::Run;
 use custody::book::Book;
-use rf233::place::place_in_record;
 use rf233::driver::Buffers;
+use rf233::place::place_in_record;
 use script::print::byte_fields;
 use script::print::field;
 use script::print::line_end;
@@ -53,8 +53,8 @@ pub fn ending(run: Run, out: &mut [u8]) -> usize {
     let buffers = driver.buffers;
     let book = session.book;
     let places = book.places;
-    let recorded = record(buffers);
-    let a = book_line(book, with_driver(recorded), out, run.written);
+    let places = record(buffers);
+    let a = book_line(book, with_driver(places), out, run.written);
     let b = places_line(b"places", places, out, a);
-    places_line(b"record", recorded, out, b)
+    places_line(b"record", places, out, b)
 }

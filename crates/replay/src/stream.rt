@@ -39,7 +39,8 @@ fn gather(text: &mut [u8], filled: usize, piece: &[u8]) -> usize {
     filled + piece.len()
 }
 
-// Writes the output that there is, where it is much and no block of a trace is being filled behind it. Where it cannot be written, the run is over.
+// Writes the output that there is, where it is much and no block of a trace is being filled behind it. Where it cannot be written, the run
+// is over.
 fn write_much(run: Run, out: &[u8]) -> Run {
     let trace = run.trace;
     if run.written <= MUCH || 0 < trace.records {

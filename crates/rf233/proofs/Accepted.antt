@@ -5,23 +5,27 @@ use mathlib.Core.Bool.{Bool, true, false, not, _&&_, _||_}
 use mathlib.Core.List.{List}
 use Prim.Native.Nat.{ℕ}
 use lib.Dec.{T, eqb}
-use Rattle.rf233.proofs.EveryStep.{every-firing, every-completion}
-use Rattle.rf233.proofs.Logic.{either}
+use Rattle.rf233.proofs.EveryStep.{OfSteps, every-firing, every-completion}
+use Rattle.rf233.proofs.ChoiceLaws.{either}
 use Rattle.rf233.specs.Answer.{answerNo}
-use Rattle.rf233.specs.Calls.{Called, guarded, completing, completionCall, firedCall, arrivedOf, arrivedBad}
+use Rattle.rf233.specs.Guard.{Called, guarded, poolFault}
+use Rattle.rf233.specs.Kernel.{completing, completionCall, firedCall, arrivedBad}
+use Rattle.rf233.specs.Arrived.{arrivedOf}
 use Rattle.rf233.specs.Choice.{pick, oneOf}
-use Rattle.rf233.specs.Completion.{inNo, handleInterrupt, completed}
-use Rattle.rf233.specs.Engine.{perform, caseOf, own}
+use Rattle.rf233.specs.Driver.{inNo}
+use Rattle.rf233.specs.Interrupt.{handleInterrupt}
+use Rattle.rf233.specs.Completion.{completed}
+use Rattle.rf233.specs.Case.{perform, caseOf, ownCase, treeAt}
 use Rattle.rf233.specs.Pool.{copied, readBuffer}
-use Rattle.rf233.specs.Record.{poolFault}
-use Rattle.rf233.specs.Rows.{Row, eval, treeAt}
+use Rattle.rf233.specs.Rows.{Row, eval}
 use Rattle.rf233.specs.Rows.Row.{does}
-use Rattle.rf233.specs.Startup.{after, accepted}
+use Rattle.rf233.specs.StartupClaim.{after, accepted}
 use Rattle.rf233.specs.Transfer.{isIdle}
 use Rattle.rf233.specs.declared.answer.Answer.the-variants.{Done}
 use Rattle.rf233.specs.declared.answer.Outcome.{Outcome}
 use Rattle.rf233.specs.declared.arrived.Arrived.{Arrived}
 use Rattle.rf233.specs.declared.driver.Driver.{Driver}
+use Rattle.laws.proofs.Logic.{clash}
 
 -- the answer is done
 abbrev pub IsDone : Outcome → Type 0
@@ -31,20 +35,18 @@ done-perform : (r : Row) (a : Arrived) (d : Driver) → IsDone (perform r a d)
 unfolding perform
 done-perform (does l x n s) a d = refl
 
-done-own : (a : Arrived) (d : Driver) → IsDone (own a d)
+done-own : (a : Arrived) (d : Driver) → IsDone (ownCase a d)
 unfolding caseOf
 done-own a d = done-perform (eval (treeAt _) a d) a d
 
+done-steps : OfSteps IsDone
+done-steps = record { silent = λ d t. refl; falls = λ t next p. refl }
+
 pub done-handle : (d : Driver) → IsDone (handleInterrupt d)
-done-handle = every-firing IsDone (λ d t. refl) done-own (λ t next p. refl)
+done-handle = every-firing IsDone done-steps
 
 pub done-completed : (a : Arrived) (d : Driver) → IsDone (completed a d)
-done-completed = every-completion IsDone (λ d t. refl) done-own (λ t next p. refl)
-
--- true is not false
-pub clash : {A : Type 0} (b : Bool) → b ≡ false → b ≡ true → A
-clash true e f = absurd (subst T e tt)
-clash false e f = absurd (subst T (sym f) tt)
+done-completed = every-completion IsDone done-steps done-own
 
 -- what is accepted went past a test that refuses
 pub past : (t : Bool) (r s : Called) → accepted r ≡ false → accepted (pick t r s) ≡ true → pick t r s ≡ s
@@ -85,13 +87,13 @@ had-transfer d xs p e =
 abbrev Unaltered : Driver → Called → Type 0
 Unaltered d c = accepted c ≡ false → after c ≡ d
 
-taken-is-accepted : (o : Outcome) → IsDone o → eqb (answerNo (o .reply .answer)) 0 ≡ true
-taken-is-accepted o e = ap (λ x. eqb (answerNo x) 0) e
+done-is-accepted : (o : Outcome) → IsDone o → eqb (answerNo (o .reply .answer)) 0 ≡ true
+done-is-accepted o e = ap (λ x. eqb (answerNo x) 0) e
 
 pub fired-refused : (d : Driver) (p : List ℕ) → Unaltered d (firedCall d p)
 unfolding firedCall
 fired-refused d p =
-    either (Unaltered d) (poolFault d p) _ _ (λ e. refl) (λ e. clash _ e (taken-is-accepted (handleInterrupt d) (done-handle d)))
+    either (Unaltered d) (poolFault d p) _ _ (λ e. refl) (λ e. clash _ e (done-is-accepted (handleInterrupt d) (done-handle d)))
 
 pub completion-refused : (d : Driver) (xs p : List ℕ) → Unaltered d (completionCall d xs p)
 unfolding completionCall completing
@@ -99,4 +101,4 @@ completion-refused d xs p =
     either (Unaltered d) (poolFault d p) _ _ (λ e. refl)
     (either (Unaltered d) (isIdle (d .buffers .under)) _ _ (λ e. refl)
     (either (Unaltered d) (arrivedBad xs (d .buffers)) _ _ (λ e. refl)
-    (λ e. clash _ e (taken-is-accepted (completed _ d) (done-completed _ d)))))
+    (λ e. clash _ e (done-is-accepted (completed _ d) (done-completed _ d)))))

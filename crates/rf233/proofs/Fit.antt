@@ -7,10 +7,23 @@ use mathlib.Core.List.{List, [], _∷_}
 use lib.Dec.{T, eqb, leb, ltb, ltb→lt}
 use lib.ListN.{length}
 use Rattle.rf233.specs.Choice.{pick, oneOf}
-use Rattle.rf233.specs.Driver.{Flag, Setting, flagNo, flag}
-use Rattle.rf233.specs.Driver.Flag.{radioOn, sending, hearing, crcValid, handling, irqPending, configPending, sleepPending, wakePending, powerPending}
-use Rattle.rf233.specs.Driver.Setting.{put, putCrc}
-use Rattle.rf233.specs.Rows.{Test, Access, Shown, Next, Row, Tree, holds, eval, trees, treeAt}
+use Rattle.rf233.specs.Completion.{frameDone}
+use Rattle.rf233.specs.Driver.{Flag, Assignment, flagNo, flag}
+use Rattle.rf233.specs.Driver.Flag.{
+  radioOn,
+  transmitting,
+  receiving,
+  crcValid,
+  interruptHandling,
+  interruptPending,
+  configPending,
+  sleepPending,
+  wakePending,
+  powerClientPending,
+}
+use Rattle.rf233.specs.Driver.Assignment.{put, putCrc}
+use Rattle.rf233.specs.Rows.{Test, Access, Shown, Next, Row, Tree, holds, eval}
+use Rattle.rf233.specs.Case.{trees, treeAt}
 use Rattle.rf233.specs.Rows.Test.{statusIn, lengthFits, isSet, listens}
 use Rattle.rf233.specs.Rows.Access.{none, reads, writes, readsLength, readsFrame, writesFrame}
 use Rattle.rf233.specs.Rows.Shown.{plain, powerChanged, configDone, sentBack, droppedBack, receivedBack}
@@ -19,12 +32,32 @@ use Rattle.rf233.specs.Rows.Row.{does}
 use Rattle.rf233.specs.Rows.Tree.{leaf, ask}
 use Rattle.rf233.specs.State.{stateNo, stateFrame}
 use Rattle.rf233.specs.declared.action.Action.{Action}
-use Rattle.rf233.specs.declared.action.Action.the-variants.{Nothing, Power, Sent, Received, ConfigDone, Dropped, IrqMakeInput, IrqClear, IrqSetFloatingState, IrqEnableInterrupts, IrqDisableInterrupts, SleepMakeOutput, SleepSet, SleepClear, ResetMakeOutput, ResetClear, ResetSet}
+use Rattle.rf233.specs.declared.action.Action.the-variants.{
+  Nothing,
+  Power,
+  Sent,
+  Received,
+  ConfigDone,
+  Dropped,
+  IrqMakeInput,
+  IrqClear,
+  IrqSetFloatingState,
+  IrqEnableInterrupts,
+  IrqDisableInterrupts,
+  SleepMakeOutput,
+  SleepSet,
+  SleepClear,
+  ResetMakeOutput,
+  ResetClear,
+  ResetSet,
+}
 use Rattle.rf233.specs.declared.arrived.Arrived.{Arrived}
 use Rattle.rf233.specs.declared.driver.Driver.{Driver}
 use Rattle.rf233.specs.declared.driver.Under.{Under}
+use Rattle.rf233.specs.declared.state.InternalState.{InternalState}
 use Rattle.rf233.specs.declared.driver.Under.the-variants.{Idle, Register, FrameRead, FrameWrite}
-use Rattle.rf233.proofs.Logic.{branch, left, right, pair, imp, apply, all, all-at, all-below, below-at}
+use Rattle.laws.proofs.Logic.{left, right, pair, imp, apply, all, all-at, all-below, below-at}
+use Rattle.rf233.proofs.ChoiceLaws.{branch}
 
 -- no transfer, a register transfer, a frame read, a frame write
 pub data Kind : Type 0 where
@@ -68,10 +101,11 @@ fit k n t r s h = ltb n 69 && (eqb (stateFrame n) (frameOf k) && fits k n t r s 
 abbrev pub Check : Type 0
 Check = Kind → ℕ → Bool → Bool → Bool → Bool → Bool
 
-abbrev all-kinds : (Kind → Bool) → Bool
+-- a test over the four kinds
+abbrev pub all-kinds : (Kind → Bool) → Bool
 all-kinds f = f nothing && (f access && (f reading && f writing))
 
-kind-at : (f : Kind → Bool) → T (all-kinds f) → (k : Kind) → T (f k)
+pub kind-at : (f : Kind → Bool) → T (all-kinds f) → (k : Kind) → T (f k)
 kind-at f t nothing = left (f nothing) _ t
 kind-at f t access = left (f access) _ (right (f nothing) _ t)
 kind-at f t reading = left (f reading) _ (right (f access) _ (right (f nothing) _ t))
@@ -104,7 +138,7 @@ law {p} {q} c =
     }
 
 -- the value of a flag after the settings, v before them; only the CRC's own flag is set from a byte
-abbrev pub final : Flag → List Setting → Bool → Bool
+abbrev pub final : Flag → List Assignment → Bool → Bool
 final x [] v = v
 final x (put g w ∷ more) v = final x more (cond (eqb (flagNo g) (flagNo x)) w v)
 final x (putCrc ∷ more) v = final x more v
@@ -174,7 +208,7 @@ nextNo (to s) n = stateNo s
 abbrev pub okRow : ℕ → Bool → Bool → Bool → Bool → Row → Bool
 okRow n t r s f (does l x m sh) =
     (leb (length sh) 6 && okShown sh t r)
-    && okAccess x (nextNo m n) (txLeft sh t) (rxLeft sh r) (final sending l s) (final handling l false) f
+    && okAccess x (nextNo m n) (txLeft sh t) (rxLeft sh r) (final transmitting l s) (final interruptHandling l false) f
 
 -- each leaf that can be reached where `transmitting` is s and whether the length is in its range is f
 abbrev okTree : ℕ → Bool → Bool → Bool → Bool → Tree → Bool
@@ -182,7 +216,8 @@ okTree n t r s f (leaf x) = okRow n t r s f x
 okTree n t r s f (ask (statusIn l) u v) = okTree n t r s f u && okTree n t r s f v
 okTree n t r s f (ask lengthFits u v) = okTree n t r s true u && okTree n t r s false v
 okTree n t r s f (ask (isSet g) u v) =
-    cond (eqb (flagNo g) (flagNo sending)) (cond s (okTree n t r s f u) (okTree n t r s f v)) (okTree n t r s f u && okTree n t r s f v)
+    cond (eqb (flagNo g) (flagNo transmitting)) (cond s (okTree n t r s f u) (okTree n t r s f v))
+    (okTree n t r s f u && okTree n t r s f v)
 okTree n t r s f (ask (listens c) u v) = okTree n t r s f u && okTree n t r s f v
 
 -- no transfer is under way
@@ -195,17 +230,17 @@ unfolding fit treeAt trees
 all-rows = law tt
 
 -- the flag of `transmitting`'s number
-is-sending : (d : Driver) (g : Flag) → T (eqb (flagNo g) (flagNo sending)) → flag g (d .flags) ≡ flag sending (d .flags)
-is-sending d radioOn e = absurd e
-is-sending d sending e = refl
-is-sending d hearing e = absurd e
-is-sending d crcValid e = absurd e
-is-sending d handling e = absurd e
-is-sending d irqPending e = absurd e
-is-sending d configPending e = absurd e
-is-sending d sleepPending e = absurd e
-is-sending d wakePending e = absurd e
-is-sending d powerPending e = absurd e
+is-transmitting : (d : Driver) (g : Flag) → T (eqb (flagNo g) (flagNo transmitting)) → flag g (d .flags) ≡ flag transmitting (d .flags)
+is-transmitting d radioOn e = absurd e
+is-transmitting d transmitting e = refl
+is-transmitting d receiving e = absurd e
+is-transmitting d crcValid e = absurd e
+is-transmitting d interruptHandling e = absurd e
+is-transmitting d interruptPending e = absurd e
+is-transmitting d configPending e = absurd e
+is-transmitting d sleepPending e = absurd e
+is-transmitting d wakePending e = absurd e
+is-transmitting d powerClientPending e = absurd e
 
 -- the choice that a flag x makes, which is s where e says so
 asked : (P : Row → Bool) (e s x a b : Bool) (p q : Row) → (T e → x ≡ s) → T (cond e (cond s a b) (a && b))
@@ -230,7 +265,7 @@ more writesFrame n t r s h f g i o = o
 row-more : (n : ℕ) (t r s f g : Bool) (x : Row) → (T f → T g) → T (okRow n t r s f x) → T (okRow n t r s g x)
 row-more n t r s f g (does l x m sh) i o =
     pair (leb (length sh) 6 && okShown sh t r) _ (left (leb (length sh) 6 && okShown sh t r) _ o)
-    (more x (nextNo m n) (txLeft sh t) (rxLeft sh r) (final sending l s) (final handling l false) f g i
+    (more x (nextNo m n) (txLeft sh t) (rxLeft sh r) (final transmitting l s) (final interruptHandling l false) f g i
     (right (leb (length sh) 6 && okShown sh t r) _ o))
 
 -- what a tree asks of a flag
@@ -241,14 +276,14 @@ set-is a d g = refl
 -- a tree that passes the test leads to a row that does
 module _ (n : ℕ) (t r : Bool) (a : Arrived) (d : Driver) where
   abbrev leads-to : Row → Bool
-  leads-to x = okRow n t r (flag sending (d .flags)) (holds lengthFits a d) x
+  leads-to x = okRow n t r (flag transmitting (d .flags)) (holds lengthFits a d) x
 
   abbrev passes : Bool → Tree → Bool
-  passes f u = okTree n t r (flag sending (d .flags)) f u
+  passes f u = okTree n t r (flag transmitting (d .flags)) f u
 
   lift : (u : Tree) (f : Bool) → (T f → T (holds lengthFits a d)) → T (passes f u) → T (leads-to (eval u a d))
   unfolding eval
-  lift (leaf x) f i o = row-more n t r (flag sending (d .flags)) f (holds lengthFits a d) x i o
+  lift (leaf x) f i o = row-more n t r (flag transmitting (d .flags)) f (holds lengthFits a d) x i o
   lift (ask (statusIn l) u v) f i o =
       branch (λ z. T (leads-to z)) (holds (statusIn l) a d) (eval u a d) (eval v a d)
       (λ y. lift u f i (left (passes f u) (passes f v) o)) (λ y. lift v f i (right (passes f u) (passes f v) o))
@@ -257,17 +292,17 @@ module _ (n : ℕ) (t r : Bool) (a : Arrived) (d : Driver) where
       (λ y. lift u true (λ z. y) (left (passes true u) (passes false v) o))
       (λ y. lift v false (λ z. absurd z) (right (passes true u) (passes false v) o))
   lift (ask (isSet g) u v) f i o =
-      asked leads-to (eqb (flagNo g) (flagNo sending)) (flag sending (d .flags)) (holds (isSet g) a d) (passes f u) (passes f v)
-      (eval u a d) (eval v a d) (λ y. set-is a d g ∙ is-sending d g y) o (lift u f i) (lift v f i)
+      asked leads-to (eqb (flagNo g) (flagNo transmitting)) (flag transmitting (d .flags)) (holds (isSet g) a d) (passes f u) (passes f v)
+      (eval u a d) (eval v a d) (λ y. set-is a d g ∙ is-transmitting d g y) o (lift u f i) (lift v f i)
   lift (ask (listens c) u v) f i o =
       branch (λ z. T (leads-to z)) (holds (listens c) a d) (eval u a d) (eval v a d)
       (λ y. lift u f i (left (passes f u) (passes f v) o)) (λ y. lift v f i (right (passes f u) (passes f v) o))
 
 -- at every state and whatever arrives
-pub row-fits : (a : Arrived) (d : Driver) (n : ℕ) (t r h : Bool) → T (fit nothing n t r (flag sending (d .flags)) h)
-    → T (okRow n t r (flag sending (d .flags)) (holds lengthFits a d) (eval (treeAt n) a d))
+pub row-fits : (a : Arrived) (d : Driver) (n : ℕ) (t r h : Bool) → T (fit nothing n t r (flag transmitting (d .flags)) h)
+    → T (okRow n t r (flag transmitting (d .flags)) (holds lengthFits a d) (eval (treeAt n) a d))
 row-fits a d n t r h o =
-    lift n t r a d (treeAt n) false (λ z. absurd z) (all-rows .gives nothing n t r (flag sending (d .flags)) h o tt)
+    lift n t r a d (treeAt n) false (λ z. absurd z) (all-rows .gives nothing n t r (flag transmitting (d .flags)) h o tt)
 
 -- The rest of the engine, and the calls, each by the same test.
 
@@ -320,8 +355,21 @@ to-42 = law tt
 abbrev pub doneNo : Bool → ℕ → ℕ
 doneNo h n = cond h n (cond (eqb n 34) 35 (cond (eqb n 63) 64 (cond (eqb n 65) 66 n)))
 
+pub done-no : (h : Bool) (s : InternalState) → stateNo (frameDone h s) ≡ doneNo h (stateNo s)
+unfolding frameDone pick
+done-no true s = refl
+done-no false s = go (eqb (stateNo s) 34) (eqb (stateNo s) 63) (eqb (stateNo s) 65) refl refl refl
+  where
+    go : (x y z : Bool) → eqb (stateNo s) 34 ≡ x → eqb (stateNo s) 63 ≡ y → eqb (stateNo s) 65 ≡ z
+        → stateNo (frameDone false s) ≡ doneNo false (stateNo s)
+    go true y z p q r = rw p
+    go false true z p q r = rw (p, q)
+    go false false true p q r = rw (p, q, r)
+    go false false false p q r = rw (p, q, r)
+
 -- buffers return
-pub return-fits : Follows (λ k n t r s h. not (isNone k)) (λ k n t r s h. fit nothing (doneNo h n) (eqb (frameOf k) 2 || t) (eqb (frameOf k) 1 || r) s false)
+pub return-fits : Follows (λ k n t r s h. not (isNone k))
+    (λ k n t r s h. fit nothing (doneNo h n) (eqb (frameOf k) 2 || t) (eqb (frameOf k) 1 || r) s false)
 unfolding fit
 return-fits = law tt
 
@@ -384,6 +432,7 @@ pub fit-frame : Follows (λ k n t r s h. true) (λ k n t r s h. eqb (frameOf k) 
 unfolding fit
 fit-frame = law tt
 
-pub fit-places : Follows (λ k n t r s h. true) (λ k n t r s h. not ((oneOf (33 ∷ 43 ∷ []) n && not t) || (oneOf (62 ∷ 64 ∷ 68 ∷ []) n && not r)))
+pub fit-places : Follows (λ k n t r s h. true)
+    (λ k n t r s h. not ((oneOf (33 ∷ 43 ∷ []) n && not t) || (oneOf (62 ∷ 64 ∷ 68 ∷ []) n && not r)))
 unfolding fit
 fit-places = law tt

@@ -1,29 +1,23 @@
 -- What an arm of a `match` on the state is told, its keys, as a fact about the state's number: `at-keys` for what holds at each key,
--- `at-state` for a test, `named` and `between` for what a callee requires (one of a list; from here to there), `unreached` for a `_`
--- arm, whose keys are `rest`. Assumes nothing.
+-- `at-state` for a test, `named` and `between` for what a callee requires (one of a list; from here to there). For a `_` arm, whose keys
+-- are
+-- `rest`: `elsewhere` and `not-at` for a test, `unreached` where a `requires` rules the arm out. Assumes nothing.
 use mathlib.Core.Path.{_≡_, refl, sym, ap, _∙_, subst}
 use mathlib.Core.Bool.{Bool, true, false, not, cond, _&&_}
 use mathlib.Core.List.{List, [], _∷_}
 use mathlib.Core.Logic.{inl, inr}
-use Prim.Native.Nat.{ℕ, zero, suc, _+_, _≤_}
+use Prim.Native.Nat.{ℕ, zero, suc, _+_, _≤_, _<_}
 use native.Mathlib.Omega.{arith}
-use lib.Dec.{T, eqb, eqb→eq}
+use lib.Dec.{T, eqb, ltb, eqb→eq, ltb→lt}
 use types.Run.{OneOf}
 use denote.Struct.Field.{Field}
 use denote.Enum.Declared.{Choice, intoss, rowss, tagOf}
 use denote.Enum.Enum.{tag}
+use Rattle.laws.proofs.Logic.{left, right, is-value}
 use Rattle.rf233.proofs.state.InternalState.{the-type, enum}
 use Rattle.rf233.specs.Choice.{oneOf}
 use Rattle.rf233.specs.State.{stateNo}
 use Rattle.rf233.specs.declared.state.InternalState.{InternalState}
-
-left : (a b : Bool) → T (a && b) → T a
-left true b t = tt
-left false b t = t
-
-right : (a b : Bool) → T (a && b) → T b
-right true b t = t
-right false b t = absurd t
 
 -- a test of every variant of an enum whose variants hold nothing: computed
 abbrev all : (Fss : List (List Field)) → (Choice Fss → Bool) → Bool
@@ -43,6 +37,12 @@ tag-number s =
     eqb→eq _ _
     (at-all (enum .parts) (λ c. eqb (tag (rowss (enum .parts)) (intoss (enum .parts) c)) (stateNo (enum .make c))) tt (enum .as-values s))
     ∙ ap stateNo (enum .eta s)
+
+-- and it is below 69
+pub state-below : (s : InternalState) → stateNo s < 69
+state-below s =
+    subst (λ n. n < 69) (ap stateNo (enum .eta s))
+    (ltb→lt _ _ (at-all (enum .parts) (λ c. ltb (stateNo (enum .make c)) 69) tt (enum .as-values s)))
 
 -- P at each key
 abbrev pub Each : (ℕ → Type 0) → List ℕ → Type 0
@@ -64,20 +64,15 @@ abbrev pub every : (ℕ → Bool) → Bool → List ℕ → Bool
 every f v [] = true
 every f v (k ∷ ks) = cond v (f k) (not (f k)) && every f v ks
 
-is-eq : (v b : Bool) → T (cond v b (not b)) → b ≡ v
-is-eq true true t = refl
-is-eq true false t = absurd t
-is-eq false true t = absurd t
-is-eq false false t = refl
-
 each-of : (f : ℕ → Bool) (v : Bool) (ks : List ℕ) → T (every f v ks) → Each (λ n. f n ≡ v) ks
 each-of f v [] t = tt
 each-of f v (k ∷ ks) t =
     let b = cond v (f k) (not (f k)) in
-    (is-eq v (f k) (left b (every f v ks) t), each-of f v ks (right b (every f v ks) t))
+    (is-value v (f k) (left b (every f v ks) t), each-of f v ks (right b (every f v ks) t))
 
 -- the same for a test: whatever f is at each key it is at the state's number
-pub at-state : (f : ℕ → Bool) (v : Bool) (ks : List ℕ) (s : InternalState) → T (every f v ks) → OneOf ks (tagOf the-type s) → f (stateNo s) ≡ v
+pub at-state : (f : ℕ → Bool) (v : Bool) (ks : List ℕ) (s : InternalState) → T (every f v ks) → OneOf ks (tagOf the-type s)
+    → f (stateNo s) ≡ v
 at-state f v ks s t e = at-keys (λ n. f n ≡ v) ks s (each-of f v ks t) e
 
 -- in an arm for the keys l, the state is one of l
@@ -95,7 +90,8 @@ bounded lo hi k (suc n) p q = ((p, omega arith), bounded lo hi (suc k) n (omega 
 
 -- in an arm for the keys from lo to lo + n, so is the state's number
 pub between : (lo n : ℕ) (s : InternalState) → OneOf (range lo (suc n)) (tagOf the-type s) → (lo ≤ stateNo s) × (stateNo s ≤ lo + n)
-between lo n s e = at-keys (λ m. (lo ≤ m) × (m ≤ lo + n)) (range lo (suc n)) s (bounded lo (lo + n) lo (suc n) (omega arith) (omega arith)) e
+between lo n s e =
+    at-keys (λ m. (lo ≤ m) × (m ≤ lo + n)) (range lo (suc n)) s (bounded lo (lo + n) lo (suc n) (omega arith) (omega arith)) e
 
 abbrev keep : Bool → ℕ → List ℕ → List ℕ
 keep true k ks = ks
@@ -109,6 +105,17 @@ without p (k ∷ ks) = keep (p k) k (without p ks)
 abbrev pub rest : (ℕ → Bool) → List ℕ
 rest named = without named (range 0 69)
 
--- a `_` arm is not reached where the state is one of those that the other arms name
-pub unreached : {A : Type 0} (l : List ℕ) (s : InternalState) → T (every (oneOf l) false (rest (oneOf l))) → oneOf l (stateNo s) ≡ true → OneOf (rest (oneOf l)) (tagOf the-type s) → A
-unreached l s t e k = absurd (subst T (sym e ∙ at-state (oneOf l) false (rest (oneOf l)) s t k) tt)
+-- in a `_` arm the state is none of those that the other arms name
+pub elsewhere : (l : List ℕ) (s : InternalState) → T (every (oneOf l) false (rest (oneOf l))) → OneOf (rest (oneOf l)) (tagOf the-type s)
+    → oneOf l (stateNo s) ≡ false
+elsewhere l = at-state (oneOf l) false (rest (oneOf l))
+
+-- where the other arms name one state
+pub not-at : (k : ℕ) (s : InternalState) → T (every (λ n. eqb n k) false (rest (oneOf (k ∷ []))))
+    → OneOf (rest (oneOf (k ∷ []))) (tagOf the-type s) → eqb (stateNo s) k ≡ false
+not-at k = at-state (λ n. eqb n k) false (rest (oneOf (k ∷ [])))
+
+-- it is not reached where the state is one of those
+pub unreached : {A : Type 0} (l : List ℕ) (s : InternalState) → T (every (oneOf l) false (rest (oneOf l))) → oneOf l (stateNo s) ≡ true
+    → OneOf (rest (oneOf l)) (tagOf the-type s) → A
+unreached l s t e k = absurd (subst T (sym e ∙ elsewhere l s t k) tt)

@@ -1,10 +1,10 @@
 mod FieldWrite
 pub mod Conditions
-pub mod StateTests
 pub mod Onward
+pub mod Answers
 pub mod Keys
 pub mod Tables
-pub mod Logic
+pub mod ChoiceLaws
 pub mod Fit
 pub mod EveryStep
 pub mod PoolLaws
@@ -17,4 +17,5 @@ pub mod OwnBuffers
 pub mod StarredSteps
 pub mod StarredOccur
 pub mod Twice
-pub mod Described
+pub mod Regrouped
+pub mod FullPlace

@@ -7,18 +7,19 @@ use Prim.Native.Nat.{ℕ, _≤_, _<_}
 use native.Mathlib.Omega.{arith}
 use lib.Dec.{leb, ltb, lit<}
 use borrow.Author.Tests.{ne-eqb, ltb-true, ltb-false, leb-true, le-leb, not-false}
-use Rattle.rf233.specs.Choice.{oneOf}
-use Rattle.rf233.specs.New.{newDriver}
-use Rattle.rf233.specs.Record.{described, countOf, slotHas, slotAbove, underHas, ownHas, one, clientAbove, recordedTwice, ownNowhere, twiceBelow, recordHas, within}
+use Rattle.rf233.specs.Choice.{oneOf, within}
+use Rattle.rf233.specs.Create.{newDriver}
+use Rattle.rf233.specs.Described.{described, slotAbove, clientAbove, recordedTwice, ownNowhere, twiceBelow}
+use Rattle.rf233.specs.Record.{countOf, slotHas, underHas, ownHas, one, recordHas}
 use Rattle.rf233.specs.State.{stateNo, stateFrame}
-use Rattle.rf233.specs.Transfer.{recorded}
+use Rattle.rf233.specs.Transfer.{recordWith}
 use Rattle.rf233.specs.declared.driver.Buffers.{Buffers}
 use Rattle.rf233.specs.declared.driver.Driver.{Driver}
 use Rattle.rf233.specs.declared.driver.Slot.{Slot}
 use Rattle.rf233.specs.declared.driver.Slot.the-variants.{Empty, Held}
 use Rattle.rf233.specs.declared.driver.Under.{Under}
 use Rattle.rf233.specs.declared.driver.Under.the-variants.{Register, FrameRead}
-use Rattle.rf233.proofs.Sound.{none-left, none-right, both-left}
+use Rattle.laws.proofs.Logic.{none-left, none-right, both-left}
 
 -- an own buffer's place, from what the record has
 pub only-16 : (t r s : Bool) → (t && true) || ((r && false) || (s && false)) ≡ t
@@ -57,7 +58,15 @@ module _ (r : Buffers) (k : ℕ) where
   unfolding countOf
   home h c e u =
       one-some (ownHas r k)
-      (omega (arith, rw (u, slot-below (r .«tx_buf») k h (none-left (slotAbove (r .«tx_buf»)) _ c), slot-below (r .«rx_buf») k h (none-left (slotAbove (r .«rx_buf»)) _ (none-right (slotAbove (r .«tx_buf»)) _ c))) at (ltb-true 0 (countOf r k) e)))
+      (omega (
+        arith,
+        rw (
+          u,
+          slot-below (r .«tx_buf») k h (none-left (slotAbove (r .«tx_buf»)) _ c),
+          slot-below (r .«rx_buf») k h
+              (none-left (slotAbove (r .«rx_buf»)) _ (none-right (slotAbove (r .«tx_buf»)) _ c)),
+        ) at (ltb-true 0 (countOf r k) e),
+      ))
 
 -- the own buffers of a driver that 12 does not describe
 module _ (d : Driver) (f : described d ≡ false) where
@@ -76,31 +85,38 @@ module _ (d : Driver) (f : described d ≡ false) where
   pub tx-home : underHas (d .buffers .under) 16 ≡ false → d .buffers .«spi_tx» ≡ true
   tx-home u =
       let r = d .buffers in
-      sym (only-16 (r .«spi_tx») (r .«spi_rx») (r .«spi_buf»)) ∙ home r 16 (lit< tt) above (not-false (recordHas r 16) (none-left (not (recordHas r 16)) _ nowhere)) u
+      sym (only-16 (r .«spi_tx») (r .«spi_rx») (r .«spi_buf»)) ∙ home r 16 (lit< tt) above
+      (not-false (recordHas r 16) (none-left (not (recordHas r 16)) _ nowhere)) u
 
   pub rx-home : underHas (d .buffers .under) 17 ≡ false → d .buffers .«spi_rx» ≡ true
   rx-home u =
       let r = d .buffers in
       sym (only-17 (r .«spi_tx») (r .«spi_rx») (r .«spi_buf»))
-      ∙ home r 17 (lit< tt) above (not-false (recordHas r 17) (none-left (not (recordHas r 17)) _ (none-right (not (recordHas r 16)) _ nowhere))) u
+      ∙ home r 17 (lit< tt) above (not-false (recordHas r 17)
+      (none-left (not (recordHas r 17)) _ (none-right (not (recordHas r 16)) _ nowhere))) u
 
   pub buf-home : underHas (d .buffers .under) 18 ≡ false → d .buffers .«spi_buf» ≡ true
   buf-home u =
       let r = d .buffers in
       sym (only-18 (r .«spi_tx») (r .«spi_rx») (r .«spi_buf»))
-      ∙ home r 18 (lit< tt) above (not-false (recordHas r 18) (none-right (not (recordHas r 17)) _ (none-right (not (recordHas r 16)) _ nowhere))) u
+      ∙ home r 18 (lit< tt) above (not-false (recordHas r 18)
+      (none-right (not (recordHas r 17)) _ (none-right (not (recordHas r 16)) _ nowhere))) u
 
   -- while a register transfer is under way, the record with another one under way is the same
   pub same-record : (x : Buffers) → d .buffers .under ≡ Register
-      → x ≡ recorded false false (d .buffers .«spi_buf») (d .buffers .«spi_buf_len») (d .buffers .«tx_buf») (d .buffers .«rx_buf») Register (d .buffers) → x ≡ d .buffers
+      → x ≡ recordWith false false (d .buffers .«spi_buf») (d .buffers .«spi_buf_len») (d .buffers .«tx_buf») (d .buffers .«rx_buf»)
+      Register (d .buffers) → x ≡ d .buffers
   same-record x u e =
       let b = d .buffers in
-      let t = sym (only-16 (b .«spi_tx») (b .«spi_rx») (b .«spi_buf»)) ∙ away b 16 (none-right (twiceBelow b 16) _ (none-left (twiceBelow b 17) _ (none-left (twiceBelow b 18) _ twice))) (rw u) in
-      let r = sym (only-17 (b .«spi_tx») (b .«spi_rx») (b .«spi_buf»)) ∙ away b 17 (none-right (twiceBelow b 17) _ (none-left (twiceBelow b 18) _ twice)) (rw u) in
+      let t = sym (only-16 (b .«spi_tx») (b .«spi_rx») (b .«spi_buf»)) ∙ away b 16
+      (none-right (twiceBelow b 16) _ (none-left (twiceBelow b 17) _ (none-left (twiceBelow b 18) _ twice))) (rw u) in
+      let r = sym (only-17 (b .«spi_tx») (b .«spi_rx») (b .«spi_buf»)) ∙ away b 17
+      (none-right (twiceBelow b 17) _ (none-left (twiceBelow b 18) _ twice)) (rw u) in
       e
-      ∙ (ap (λ (x : Bool). recorded x false (b .«spi_buf») (b .«spi_buf_len») (b .«tx_buf») (b .«rx_buf») Register b) (sym t)
-      ∙ (ap (λ (x : Bool). recorded (b .«spi_tx») x (b .«spi_buf») (b .«spi_buf_len») (b .«tx_buf») (b .«rx_buf») Register b) (sym r)
-      ∙ ap (λ (x : Under). recorded (b .«spi_tx») (b .«spi_rx») (b .«spi_buf») (b .«spi_buf_len») (b .«tx_buf») (b .«rx_buf») x b) (sym u)))
+      ∙ (ap (λ (x : Bool). recordWith x false (b .«spi_buf») (b .«spi_buf_len») (b .«tx_buf») (b .«rx_buf») Register b) (sym t)
+      ∙ (ap (λ (x : Bool). recordWith (b .«spi_tx») x (b .«spi_buf») (b .«spi_buf_len») (b .«tx_buf») (b .«rx_buf») Register b) (sym r)
+      ∙ ap (λ (x : Under). recordWith (b .«spi_tx») (b .«spi_rx») (b .«spi_buf») (b .«spi_buf_len») (b .«tx_buf») (b .«rx_buf») x b)
+      (sym u)))
 
   -- a frame read leaves the buffers of a register transfer at home
   pub frame-home : (b l : ℕ) → d .buffers .under ≡ FrameRead b l → (d .buffers .«spi_tx» ≡ true) × (d .buffers .«spi_rx» ≡ true)
@@ -117,7 +133,8 @@ pub record Plain (n : ℕ) : Type 0 where
   pub receives : oneOf (62 ∷ 64 ∷ 68 ∷ []) n ≡ false
 
 -- from one such state to another, the record the same, 12 describes the driver as little as before
-pub moved : (n m : ℕ) (d e : Driver) → Plain n → Plain m → stateNo (d .state) ≡ n → stateNo (e .state) ≡ m → d .buffers .under ≡ Register → e .buffers ≡ d .buffers → described e ≡ described d
+pub moved : (n m : ℕ) (d e : Driver) → Plain n → Plain m → stateNo (d .state) ≡ n → stateNo (e .state) ≡ m → d .buffers .under ≡ Register
+    → e .buffers ≡ d .buffers → described e ≡ described d
 unfolding described
 moved n m d e c f s t u b = rw (b, u, s, t, c .names, c .sends, c .receives, f .names, f .sends, f .receives)
 

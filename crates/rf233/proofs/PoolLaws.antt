@@ -1,28 +1,20 @@
 -- Laws of the pool: what a transfer writes and what a completion copies leave it as long as it was, and what a copy into a lent part of
 -- it makes of the whole. Assumes nothing.
-use mathlib.Core.Path.{_≡_, refl}
-use mathlib.Core.Bool.{Bool, true, false}
+use mathlib.Core.Path.{_≡_}
 use mathlib.Core.List.{List, _++_, append-assoc}
 use Prim.Native.Nat.{ℕ, _+_, _≤_}
 use native.Mathlib.Omega.{arith}
 use lib.ListN.{length, take, drop, length-append, length-take, length-drop, length-set, take-append-drop}
 use lib.Seq.{take-length, drop-append-le, drop-drop}
 use borrow.Rule.Slice.PartMut.{midOf, putMid}
-use Rattle.rf233.proofs.Logic.{of-choice}
-use Rattle.rf233.specs.Choice.{pick}
-use Rattle.rf233.specs.Pool.{startOf, written, copied}
+use Rattle.rf233.proofs.ChoiceLaws.{of-choice, same-choice}
+use Rattle.rf233.specs.Pool.{startOf, commandWritten, copied}
 use Rattle.rf233.specs.declared.transfer.Transfer.{Transfer}
 
--- a choice between equals is that
-pick-same : (v : Bool) (n : ℕ) → pick v n n ≡ n
-unfolding pick
-pick-same true n = refl
-pick-same false n = refl
-
 -- a transfer's command bytes
-pub written-length : (t : Transfer) (p : List ℕ) → length (written t p) ≡ length p
-unfolding written
-written-length t p = simp (of-choice (length {A = ℕ}), length-set, pick-same)
+pub command-written-length : (t : Transfer) (p : List ℕ) → length (commandWritten t p) ≡ length p
+unfolding commandWritten
+command-written-length t p = simp (of-choice (length {A = ℕ}), length-set, same-choice)
 
 -- arrived bytes that fit
 pub copied-length : (b : ℕ) (xs p : List ℕ) → startOf b + length xs ≤ length p → length (copied b xs p) ≡ length p

@@ -9,31 +9,14 @@ use borrow.Author.Tests.{leb-true, ltb-false, eqb-true, not-false}
 use mathlib.Core.List.{List}
 use lib.ListN.{length}
 use Rattle.rf233.specs.Pool.{readBuffer, writeLength, readLength, shorter}
-use Rattle.rf233.specs.Record.{slotAbove, underSlot, clientAbove, recordedTwice, ownNowhere, lengthBad, within, described, poolFault}
+use Rattle.rf233.specs.Described.{slotAbove, underSlot, clientAbove, recordedTwice, ownNowhere, lengthBad, described}
+use Rattle.rf233.specs.Choice.{within}
+use Rattle.rf233.specs.Guard.{poolFault}
 use Rattle.rf233.specs.declared.driver.Buffers.{Buffers}
 use Rattle.rf233.specs.declared.driver.Driver.{Driver}
 use Rattle.rf233.specs.declared.driver.Under.{Under}
 use Rattle.rf233.specs.declared.driver.Under.the-variants.{Idle, Register, FrameRead, FrameWrite}
-
--- neither of two tests holds
-pub none-left : (a b : Bool) → a || b ≡ false → a ≡ false
-none-left true b e = e
-none-left false b e = refl
-
-pub none-right : (a b : Bool) → a || b ≡ false → b ≡ false
-none-right true true e = e
-none-right true false e = refl
-none-right false b e = e
-
--- both hold
-pub both-left : (a b : Bool) → a && b ≡ true → a ≡ true
-both-left true b e = refl
-both-left false b e = e
-
-pub both-right : (a b : Bool) → a && b ≡ true → b ≡ true
-both-right true b e = e
-both-right false true e = refl
-both-right false false e = e
+use Rattle.laws.proofs.Logic.{none-left, none-right, both-right}
 
 -- a pool that 12 does not describe is 3,040 bytes long
 pub pool-right : (d : Driver) (p : List ℕ) → poolFault d p ≡ false → length p ≡ 3040
@@ -84,5 +67,6 @@ shorter-fits d e =
     let now = r .«spi_buf_len» in
     let l = lengths-right d e in
     let h = within-high 129 160 whole (not-false (within 129 160 whole) (none-left (not (within 129 160 whole)) _ l)) in
-    let k = within-high 2 whole now (not-false (within 2 whole now) (none-left (not (within 2 whole now)) _ (none-right (not (within 129 160 whole)) _ l))) in
+    let k = within-high 2 whole now
+    (not-false (within 2 whole now) (none-left (not (within 2 whole now)) _ (none-right (not (within 129 160 whole)) _ l))) in
     short (r .under) r (omega arith)

@@ -11,15 +11,19 @@ use Rattle.rf233_const.specs.Bits.{bitSet}
 use Rattle.rf233_const.specs.Status.{chipStatus}
 use Rattle.rf233.specs.Action.{actions}
 use Rattle.rf233.specs.Answer.{quiet, refused}
-use Rattle.rf233.specs.Calls.{Called, refusing, startCall, commitCall, completionCall, arrivedBad, setPower, settingsOf, withSettings, transmitCall}
-use Rattle.rf233.specs.New.{newCall}
+use Rattle.rf233.specs.Guard.{Called, refusing}
+use Rattle.rf233.specs.Config.{startCall, commitCall, setPower, settingsOf, withSettings}
+use Rattle.rf233.specs.Kernel.{completionCall, arrivedBad}
+use Rattle.rf233.specs.Data.{transmitCall}
+use Rattle.rf233.specs.Create.{newCall}
 use Rattle.rf233.specs.Power.{minus, settingToPower, powerToSetting}
 use Rattle.rf233.specs.Record as rec
-use Rattle.rf233.specs.Record.{described, recordHas}
+use Rattle.rf233.specs.Described.{described}
+use Rattle.rf233.specs.Record.{recordHas}
 use Rattle.rf233.specs.State.{stateNo}
 use Rattle.rf233.specs.Transfer.{transferOf, noTransfer, isIdle}
 use Rattle.rf233.specs.declared.action.Action.the-variants.{Sent}
-use Rattle.rf233.specs.declared.answer.Answer.the-variants.{Done, Size, Long, Inval}
+use Rattle.rf233.specs.declared.answer.Answer.the-variants.{Done}
 use Rattle.rf233.specs.declared.driver.Driver.{Driver}
 use Rattle.rf233.specs.declared.driver.Slot.the-variants.{Empty, Held}
 use Rattle.rf233.specs.declared.driver.Under.{Under}
@@ -46,8 +50,8 @@ pub record MaySend (d : Driver) (b : ℕ) (p : List ℕ) : Type 0 where
   pub passes : Passes12 d p
   pub on : d .flags .«radio_on» ≡ true
   pub held : d .buffers .«tx_buf» ≡ Empty
-  pub under-way : rec.sending (d .buffers .under) ≡ Empty
-  pub sending : d .flags .transmitting ≡ false
+  pub under-way : rec.txUnderWay (d .buffers .under) ≡ Empty
+  pub not-transmitting : d .flags .transmitting ≡ false
   pub clients : b ≤ 15
   pub new : recordHas (d .buffers) b ≡ false
 
@@ -134,24 +138,30 @@ pub record StarredCases : Type 0 where
   -- "`set_tx_power`: 4 and -17 pass; 5 and -18 are INVAL."
   pub power-4 : (d : Driver) → setPower d (pos 4) ≡ quiet (withPower (pos 4) d) (actions [])
   pub power-minus-17 : (d : Driver) → setPower d (minus 17) ≡ quiet (withPower (minus 17) d) (actions [])
-  pub power-5 : (d : Driver) → setPower d (pos 5) ≡ refused Inval d
-  pub power-minus-18 : (d : Driver) → setPower d (minus 18) ≡ refused Inval d
+  pub power-5 : (d : Driver) → setPower d (pos 5) ≡ refused 5 d
+  pub power-minus-18 : (d : Driver) → setPower d (minus 18) ≡ refused 5 d
   -- "`transmit`, radio on, nothing held: length 125 in a buffer of 130 passes; in 129 it is SIZE; 126 in 160 is LONG."
   pub transmit-125-in-130 : (d : Driver) (b : ℕ) (p : List ℕ) → MaySend d b p → Takes b 130 127 (transmitCall d b 130 125 p)
-  pub transmit-125-in-129 : (d : Driver) (b : ℕ) (p : List ℕ) → MaySend d b p → transmitCall d b 129 125 p ≡ refusing Size d p
-  pub transmit-126-in-160 : (d : Driver) (b : ℕ) (p : List ℕ) → MaySend d b p → transmitCall d b 160 126 p ≡ refusing Long d p
+  pub transmit-125-in-129 : (d : Driver) (b : ℕ) (p : List ℕ) → MaySend d b p → transmitCall d b 129 125 p ≡ refusing 3 d p
+  pub transmit-126-in-160 : (d : Driver) (b : ℕ) (p : List ℕ) → MaySend d b p → transmitCall d b 160 126 p ≡ refusing 4 d p
   -- "A new driver's `start` sends 0x9C 0x00 and stays in state 0."
   pub new-start : (l c : ℕ) (p : List ℕ) → length p ≡ 3040 → Reads 0x9C 0x00 0 (startCall (newCall l c .driver) p)
   -- "From SLEEP, no transfer under way, it sends 0x81 0x00 and enters 32."
   pub sleep-start : (d : Driver) (p : List ℕ) → Passes12 d p → In 31 d → d .buffers .under ≡ Idle → Reads 0x81 0x00 32 (startCall d p)
   -- "PAN 0x1234: startup sends 0xE2 0x12, 0xE3 0x34;"
-  pub startup-pan-0 : (d : Driver) (xs p : List ℕ) → Completes Register 10 d xs p → d .settings .pan ≡ 0x1234 → Writes 0xE2 0x12 11 (completionCall d xs p)
-  pub startup-pan-1 : (d : Driver) (xs p : List ℕ) → Completes Register 11 d xs p → d .settings .pan ≡ 0x1234 → Writes 0xE3 0x34 12 (completionCall d xs p)
+  pub startup-pan-0 : (d : Driver) (xs p : List ℕ) → Completes Register 10 d xs p → d .settings .pan ≡ 0x1234
+      → Writes 0xE2 0x12 11 (completionCall d xs p)
+  pub startup-pan-1 : (d : Driver) (xs p : List ℕ) → Completes Register 11 d xs p → d .settings .pan ≡ 0x1234
+      → Writes 0xE3 0x34 12 (completionCall d xs p)
   -- "a commit sends 0xE2 0x34, 0xE3 0x12."
-  pub commit-pan-0 : (d : Driver) (xs p : List ℕ) → Completes Register 46 d xs p → d .settings .pan ≡ 0x1234 → Writes 0xE2 0x34 47 (completionCall d xs p)
-  pub commit-pan-1 : (d : Driver) (xs p : List ℕ) → Completes Register 47 d xs p → d .settings .pan ≡ 0x1234 → Writes 0xE3 0x12 48 (completionCall d xs p)
-  -- "Address 0xABCD, commit waiting when READY completes with no interrupt pending: 0xE0 0xCD goes out, the step falls on to the next case,"
-  pub waiting-commit : (d : Driver) (xs p : List ℕ) → Completes Register 29 d xs p → d .flags .«config_pending» ≡ true → d .settings .addr ≡ 0xABCD
+  pub commit-pan-0 : (d : Driver) (xs p : List ℕ) → Completes Register 46 d xs p → d .settings .pan ≡ 0x1234
+      → Writes 0xE2 0x34 47 (completionCall d xs p)
+  pub commit-pan-1 : (d : Driver) (xs p : List ℕ) → Completes Register 47 d xs p → d .settings .pan ≡ 0x1234
+      → Writes 0xE3 0x12 48 (completionCall d xs p)
+  -- "Address 0xABCD, commit waiting when READY completes with no interrupt pending: 0xE0 0xCD goes out, the step falls on to the next
+  -- case,"
+  pub waiting-commit : (d : Driver) (xs p : List ℕ) → Completes Register 29 d xs p → d .flags .«config_pending» ≡ true
+      → d .settings .addr ≡ 0xABCD
       → Writes 0xE0 0xCD 46 (completionCall d xs p)
   -- "and SHORT_ADDR_1 is never written." The first bytes that the whole commit sends, until the driver is in READY again: no 0xE1
   pub waiting-commit-run : (d : Driver) (xs p : List ℕ) (ys : ℕ → List ℕ) → Completes Register 29 d xs p → d .flags .«config_pending» ≡ true
@@ -160,9 +170,11 @@ pub record StarredCases : Type 0 where
       ≡ 0xE0 ∷ 0xE2 ∷ 0xE3 ∷ 0xE4 ∷ 0xE5 ∷ 0xE6 ∷ 0xE7 ∷ 0xE8 ∷ 0xE9 ∷ 0xEA ∷ 0xEB ∷ 0xC5 ∷ 0xC8 ∷ 0x81 ∷ [])
       × In 29 (run ys 13 (completionCall d xs p) .outcome .driver)
   -- "A commit called in READY during a transfer skips SHORT_ADDR_0 instead." It starts nothing, and the next completion writes SHORT_ADDR_1
-  pub commit-during : (d : Driver) (p : List ℕ) → Passes12 d p → In 29 d → d .flags .«config_pending» ≡ false → isIdle (d .buffers .under) ≡ false
+  pub commit-during : (d : Driver) (p : List ℕ) → Passes12 d p → In 29 d → d .flags .«config_pending» ≡ false
+      → isIdle (d .buffers .under) ≡ false
       → (commitCall d p .outcome .reply .transfer ≡ noTransfer) × In 45 (commitCall d p .outcome .driver)
-  pub commit-during-next : (d : Driver) (xs p : List ℕ) → Completes Register 29 d xs p → d .flags .«config_pending» ≡ false → d .settings .addr ≡ 0xABCD
+  pub commit-during-next : (d : Driver) (xs p : List ℕ) → Completes Register 29 d xs p → d .flags .«config_pending» ≡ false
+      → d .settings .addr ≡ 0xABCD
       → Writes 0xE1 0xAB 46 (completionCall (commitCall d p .outcome .driver) xs (commitCall d p .pool))
   -- "TX_RETURN_TO_RX, status 0x16: result 0x00 gives ack and success; 0x20 no ack, success; 0x60 no ack, FAIL."
   pub result-00 : Told 0x00 true false

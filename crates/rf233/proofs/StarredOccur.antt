@@ -7,16 +7,27 @@ use Prim.Native.Nat.{ℕ}
 use lib.Dec.{lit≤}
 use lib.IntN.{pos}
 use lib.ListN.{replicate, length-replicate}
-use Rattle.rf233.specs.Calls.{settingsOf}
-use Rattle.rf233.specs.Driver.{driver, flagsOf}
-use Rattle.rf233.specs.Record.{described, countOf}
+use Rattle.rf233.specs.Config.{settingsOf}
+use Rattle.rf233.specs.Driver.{driverOf, flagsOf}
+use Rattle.rf233.specs.Described.{described}
+use Rattle.rf233.specs.Record.{countOf}
 use Rattle.rf233.specs.declared.driver.Driver.{Driver}
 use Rattle.rf233.specs.declared.driver.Slot.{Slot}
 use Rattle.rf233.specs.declared.driver.Slot.the-variants.{Empty, Held}
 use Rattle.rf233.specs.declared.driver.Under.{Under}
 use Rattle.rf233.specs.declared.driver.Under.the-variants.{Idle, Register, FrameRead}
 use Rattle.rf233.specs.declared.state.InternalState.{InternalState}
-use Rattle.rf233.specs.declared.state.InternalState.the-variants.{«START_XAH0_SET», «START_PANID0_SET», READY, SLEEP, «TX_RETURN_TO_RX», «CONFIG_SHORT1_SET», «CONFIG_PAN0_SET», «RX_READING_FRAME_LEN», «RX_READING_FRAME_LEN_DONE»}
+use Rattle.rf233.specs.declared.state.InternalState.the-variants.{
+  «START_XAH0_SET»,
+  «START_PANID0_SET»,
+  READY,
+  SLEEP,
+  «TX_RETURN_TO_RX»,
+  «CONFIG_SHORT1_SET»,
+  «CONFIG_PAN0_SET»,
+  «RX_READING_FRAME_LEN»,
+  «RX_READING_FRAME_LEN_DONE»,
+}
 use Rattle.rf233.proofs.Starred.{Passes12, In, MaySend, Completes, Detours}
 
 -- a pool
@@ -27,7 +38,7 @@ pool = replicate 3040 0
 -- buffers of a register transfer, and spi_buf, are in their places; then the client's places and the transfer under way
 abbrev example : InternalState → Bool → Bool → Bool → Bool → Slot → Slot → Under → Driver
 example s w h t b x y u =
-    driver s (flagsOf true false false false h false w false false false)
+    driverOf s (flagsOf true false false false h false w false false false)
     (record { «tx_client» = true; «rx_client» = true; «cfg_client» = true; «power_client» = true })
     (settingsOf 0xABCD (replicate 8 0) 0x1234 (pos 4) 26)
     (record {
@@ -50,7 +61,8 @@ passes d e = record { pool = length-replicate {A = ℕ} 3040 0; fit = e }
 abbrev during : Bool → InternalState → Driver
 during w s = example s w false false true Empty Empty Register
 
-registers : (n : ℕ) (w : Bool) (s : InternalState) → In n (during w s) → described (during w s) ≡ false → Completes Register n (during w s) (0 ∷ 0 ∷ []) pool
+registers : (n : ℕ) (w : Bool) (s : InternalState) → In n (during w s) → described (during w s) ≡ false
+    → Completes Register n (during w s) (0 ∷ 0 ∷ []) pool
 registers n w s i e =
     record { passes = passes (during w s) e; state = i; under-way = refl; arrived = refl; handling = refl; pending = refl }
 
@@ -64,7 +76,8 @@ pub record Occurs : Type 0 where
   pub in-46 : Completes Register 46 (during false «CONFIG_SHORT1_SET») (0 ∷ 0 ∷ []) pool
   pub in-47 : Completes Register 47 (during false «CONFIG_PAN0_SET») (0 ∷ 0 ∷ []) pool
   pub in-43 : Completes Register 43 (example «TX_RETURN_TO_RX» false false false true (Held 3 130) Empty Register) (0x16 ∷ 0x60 ∷ []) pool
-  pub in-63 : Completes (FrameRead 4 129) 63 (example «RX_READING_FRAME_LEN» false false true false Empty Empty (FrameRead 4 129)) (0 ∷ 127 ∷ []) pool
+  pub in-63 : Completes (FrameRead 4 129) 63 (example «RX_READING_FRAME_LEN» false false true false Empty Empty (FrameRead 4 129))
+      (0 ∷ 127 ∷ []) pool
   pub in-64 : Detours 64 (example «RX_READING_FRAME_LEN_DONE» false true false true Empty (Held 4 129) Register) (0 ∷ 11 ∷ []) pool
 
 pub occurs : Occurs
@@ -73,7 +86,7 @@ occurs =
     record {
       sleeping = passes _ refl;
       sendable =
-          record { passes = passes _ refl; on = refl; held = refl; under-way = refl; sending = refl; clients = lit≤ tt; new = refl };
+          record { passes = passes _ refl; on = refl; held = refl; under-way = refl; not-transmitting = refl; clients = lit≤ tt; new = refl };
       in-10 = registers 10 _ _ refl refl;
       in-11 = registers 11 _ _ refl refl;
       in-29 = registers 29 _ _ refl refl;

@@ -13,61 +13,89 @@ use Rattle.rf233_const.specs.Register.{registerAddress}
 use Rattle.rf233_const.specs.declared.register.RF233Register.{RF233Register}
 use Rattle.rf233.specs.Action.{actions}
 use Rattle.rf233.specs.Answer.{quiet}
-use Rattle.rf233.specs.Choice.{pick}
-use Rattle.rf233.specs.Calls.{Called, stepping, refusing, channelFits, started, startCall, committing, commitCall, completing, completionCall, setPower, transmitting, transmitCall}
-use Rattle.rf233.specs.Completion.{completed, readyBookkeeping, pendingInterrupt, waitingCommit, frameDone, returned, nowOn, interruptResult, frameEnd, interruptState}
-use Rattle.rf233.specs.Driver.{inState, flagged}
-use Rattle.rf233.specs.Driver.Flag.{hearing, configPending}
-use Rattle.rf233.specs.Engine.{caseOf, perform, acknowledged, failed}
-use Rattle.rf233.specs.New.{newCall, newDriver}
-use Rattle.rf233.specs.Pool.{startOf, written}
-use Rattle.rf233.specs.Record.{within}
-use Rattle.rf233.specs.Rows.{trees, treeAt, eval, holds}
+use Rattle.rf233.specs.Choice.{pick, within}
+use Rattle.rf233.specs.Guard.{Called, stepping, refusing}
+use Rattle.rf233.specs.Config.{channelFits, beginStart, startCall, beginCommit, commitCall, setPower}
+use Rattle.rf233.specs.Kernel.{completing, completionCall}
+use Rattle.rf233.specs.Data.{beginTransmit, transmitCall}
+use Rattle.rf233.specs.Completion.{
+  completed,
+  readyBookkeeping,
+  pendingInterrupt,
+  waitingCommit,
+  frameDone,
+  transferOver,
+  nowOn,
+  interruptResult,
+  frameEnd,
+}
+use Rattle.rf233.specs.Interrupt.{interruptState}
+use Rattle.rf233.specs.Driver.{withState, flagged}
+use Rattle.rf233.specs.Driver.Flag.{receiving, configPending}
+use Rattle.rf233.specs.Case.{caseOf, perform, trees, treeAt}
+use Rattle.rf233.specs.Transmit.{acknowledged, failed}
+use Rattle.rf233.specs.Create.{newCall, newDriver}
+use Rattle.rf233.specs.Pool.{startOf, commandWritten}
+use Rattle.rf233.specs.Rows.{eval, holds}
 use Rattle.rf233.specs.Rows.Access.{writes}
 use Rattle.rf233.specs.Rows.Next.{to}
 use Rattle.rf233.specs.Rows.Row.{does}
 use Rattle.rf233.specs.Rows.Tree.{leaf}
 use Rattle.rf233.specs.State.{stateNo}
 use Rattle.rf233.specs.Transfer.{transferOf, registerTransfer, frameReadInto, isIdle}
-use Rattle.rf233.specs.Value.{valueOf}
-use Rattle.rf233.specs.declared.answer.Answer.the-variants.{Size, Long}
+use Rattle.rf233.specs.Write.{valueOf}
 use Rattle.rf233.specs.declared.answer.Outcome.{Outcome}
 use Rattle.rf233.specs.declared.arrived.Arrived.{Arrived}
 use Rattle.rf233.specs.declared.driver.Driver.{Driver}
 use Rattle.rf233.specs.declared.driver.Slot.the-variants.{Held}
 use Rattle.rf233.specs.declared.driver.Under.the-variants.{Idle, Register}
-use Rattle.rf233.specs.declared.startup.Value.{Value}
-use Rattle.rf233.specs.declared.startup.Value.the-variants.{AddrLow, AddrHigh}
+use Rattle.rf233.specs.declared.write.Value.{Value}
+use Rattle.rf233.specs.declared.write.Value.the-variants.{AddrLow, AddrHigh}
 use Rattle.rf233.specs.declared.state.InternalState.{InternalState}
 use Rattle.rf233.specs.declared.state.InternalState.the-variants.{«CONFIG_SHORT0_SET»}
 use Rattle.rf233.specs.declared.transfer.Started.{Started}
 use Rattle.rf233.specs.declared.transfer.Transfer.{Transfer}
-use Rattle.rf233.proofs.Logic.{either}
+use Rattle.laws.proofs.Logic.{both-left}
+use Rattle.rf233.proofs.ChoiceLaws.{either}
 use Rattle.rf233.proofs.Accepted.{arrived}
 use Rattle.rf233.proofs.Conditions.{by-flag}
 use Rattle.rf233.proofs.Keys.{range}
 use Rattle.rf233.proofs.OwnBuffers.{Plain, moved, tx-home, rx-home, buf-home, frame-home, same-record, new-fit}
-use Rattle.rf233.proofs.PoolLaws.{written-length}
-use Rattle.rf233.proofs.Sound.{both-left}
-use Rattle.rf233.proofs.StarredSteps.{unguarded, sends, unmoved, next, still, taken, straight, write-case, Goes}
-use Rattle.rf233.proofs.Starred.{Passes12, In, MaySend, Completes, Detours, Sends, Takes, Told, ReadsOut, ReadOut, NotReadOut, run, firstSent, StarredCases}
+use Rattle.rf233.proofs.PoolLaws.{command-written-length}
+use Rattle.rf233.proofs.StarredSteps.{unguarded, sends, unmoved, next, still, accepted-step, straight, write-case, Goes}
+use Rattle.rf233.proofs.Starred.{
+  Passes12,
+  In,
+  MaySend,
+  Completes,
+  Detours,
+  Sends,
+  Takes,
+  Told,
+  ReadsOut,
+  ReadOut,
+  NotReadOut,
+  run,
+  firstSent,
+  StarredCases,
+}
 
 -- `transmit`: its refusals in order, none of which applies but the named one
 module _ {d : Driver} {b : ℕ} {p : List ℕ} (h : MaySend d b p) where
-  in-129 : transmitCall d b 129 125 p ≡ refusing Size d p
+  in-129 : transmitCall d b 129 125 p ≡ refusing 3 d p
   unfolding transmitCall pick
-  in-129 = rw (unguarded d p _ (h .passes), le-ltb 15 b (h .clients), h .on, h .held, h .under-way, h .sending)
+  in-129 = rw (unguarded d p _ (h .passes), le-ltb 15 b (h .clients), h .on, h .held, h .under-way, h .not-transmitting)
 
-  in-160 : transmitCall d b 160 126 p ≡ refusing Long d p
+  in-160 : transmitCall d b 160 126 p ≡ refusing 4 d p
   unfolding transmitCall pick
-  in-160 = rw (unguarded d p _ (h .passes), le-ltb 15 b (h .clients), h .on, h .held, h .under-way, h .sending)
+  in-160 = rw (unguarded d p _ (h .passes), le-ltb 15 b (h .clients), h .on, h .held, h .under-way, h .not-transmitting)
 
-  in-130 : transmitCall d b 130 125 p ≡ stepping (transmitting d b 130 125) (set p (startOf b + 1) 127)
+  in-130 : transmitCall d b 130 125 p ≡ stepping (beginTransmit d b 130 125) (set p (startOf b + 1) 127)
   unfolding transmitCall pick
-  in-130 = rw (unguarded d p _ (h .passes), le-ltb 15 b (h .clients), h .on, h .new, h .held, h .under-way, h .sending)
+  in-130 = rw (unguarded d p _ (h .passes), le-ltb 15 b (h .clients), h .on, h .new, h .held, h .under-way, h .not-transmitting)
 
   sent-130 : Takes b 130 127 (transmitCall d b 130 125 p)
-  unfolding transmitting registerTransfer
+  unfolding beginTransmit registerTransfer
   sent-130 =
       rw in-130
       (either (λ (o : Outcome). Takes b 130 127 (stepping o (set p (startOf b + 1) 127))) _ _ _
@@ -80,7 +108,7 @@ module _ {d : Driver} {b : ℕ} {p : List ℕ} (h : MaySend d b p) where
 
 -- `start`
 new-sends : (l c : ℕ) (p : List ℕ) → within 129 160 l ≡ true → length p ≡ 3040 → Sends 1 0x9C 0x00 0 (startCall (newDriver l c) p)
-unfolding startCall started registerTransfer pick
+unfolding startCall beginStart registerTransfer pick
 new-sends l c p h e = rw (unguarded (newDriver l c) p _ (record { pool = e; fit = new-fit l c h })) (sends _ _ e refl refl refl refl)
 
 new-starts : (l c : ℕ) (p : List ℕ) → length p ≡ 3040 → Sends 1 0x9C 0x00 0 (startCall (newCall l c .driver) p)
@@ -91,7 +119,7 @@ new-starts l c p e =
     (λ t. rw t (new-sends 129 26 p refl e))
 
 sleep-starts : (d : Driver) (p : List ℕ) → Passes12 d p → In 31 d → d .buffers .under ≡ Idle → Sends 1 0x81 0x00 32 (startCall d p)
-unfolding startCall started registerTransfer pick
+unfolding startCall beginStart registerTransfer pick
 sleep-starts d p h s u =
     let t = tx-home d (h .fit) (rw u) in
     let r = rx-home d (h .fit) (rw u) in
@@ -99,17 +127,17 @@ sleep-starts d p h s u =
 
 -- a commit: waiting when READY completes, and called in READY during a transfer
 module _ {d : Driver} {xs p : List ℕ} (h : Completes Register 29 d xs p) where
-  at-ready : (a : Arrived) → completed a d ≡ waitingCommit a (nowOn (returned d))
+  at-ready : (a : Arrived) → completed a d ≡ waitingCommit a (nowOn (transferOver d))
   unfolding completed readyBookkeeping pendingInterrupt pick
   at-ready a = rw (h .handling, unmoved 29 (d .state) (search) (h .state), h .state, h .pending)
 
   waits : d .flags .«config_pending» ≡ true → Goes 0xE0 (valueOf AddrLow (d .settings)) 46 d (completionCall d xs p)
   unfolding waitingCommit caseOf treeAt trees eval perform registerTransfer pick
   waits c =
-      rw (taken h refl, at-ready (arrived d xs p), h .handling, unmoved 29 (d .state) (search) (h .state), c, h .state)
+      rw (accepted-step h refl, at-ready (arrived d xs p), h .handling, unmoved 29 (d .state) (search) (h .state), c, h .state)
       (record {
         sent = sends _ _ (still h) refl refl (rw (h .under-way)) (rw (h .under-way));
-        pool = written-length _ _ ∙ still h;
+        pool = command-written-length _ _ ∙ still h;
         buffers = same-record d (h .passes .fit) _ (h .under-way) (rw (h .under-way));
         handling = rw (h .under-way);
         pending = rw (h .under-way) (h .pending);
@@ -117,19 +145,20 @@ module _ {d : Driver} {xs p : List ℕ} (h : Completes Register 29 d xs p) where
 
 -- called in READY during a transfer, a commit starts nothing and leaves 45
 during : (d : Driver) (p : List ℕ) → Passes12 d p → In 29 d → d .flags .«config_pending» ≡ false → isIdle (d .buffers .under) ≡ false
-    → commitCall d p ≡ record { outcome = quiet (inState «CONFIG_SHORT0_SET» (flagged configPending true d)) (actions []); pool = p }
-unfolding commitCall committing registerTransfer written pick
+    → commitCall d p ≡ record { outcome = quiet (withState «CONFIG_SHORT0_SET» (flagged configPending true d)) (actions []); pool = p }
+unfolding commitCall beginCommit registerTransfer commandWritten pick
 during d p h s c u = rw (unguarded d p _ h, c, s, u)
 
 during-next : (d : Driver) (xs p : List ℕ) → Completes Register 29 d xs p → d .flags .«config_pending» ≡ false
     → Sends 2 0xE1 (valueOf AddrHigh (d .settings)) 46 (completionCall (commitCall d p .outcome .driver) xs (commitCall d p .pool))
 unfolding treeAt trees
 during-next d xs p h c =
-    let e = inState «CONFIG_SHORT0_SET» (flagged configPending true d) in
+    let e = withState «CONFIG_SHORT0_SET» (flagged configPending true d) in
     rw (during d p (h .passes) (h .state) c (rw (h .under-way)))
     (write-case {n = 45} {d = e} (search) refl refl
     (record {
-      passes = record { pool = h .passes .pool; fit = moved 29 45 d e (search) (search) (h .state) refl (h .under-way) refl ∙ h .passes .fit };
+      passes =
+          record { pool = h .passes .pool; fit = moved 29 45 d e (search) (search) (h .state) refl (h .under-way) refl ∙ h .passes .fit };
       state = refl;
       under-way = h .under-way;
       arrived = h .arrived;
@@ -139,7 +168,8 @@ during-next d xs p h c =
     .sent)
 
 -- CONFIG_DONE, and back in READY
-done : {d : Driver} {xs p : List ℕ} → Completes Register 58 d xs p → (firstSent (completionCall d xs p) ≡ 0x81) × In 29 (completionCall d xs p .outcome .driver)
+done : {d : Driver} {xs p : List ℕ} → Completes Register 58 d xs p
+    → (firstSent (completionCall d xs p) ≡ 0x81) × In 29 (completionCall d xs p .outcome .driver)
 unfolding caseOf treeAt trees eval perform registerTransfer pick
 done {d} {xs} {p} h =
     rw (straight h 58 refl (rw (unmoved 58 (d .state) (search) (h .state)) (h .state)) refl, h .under-way)
@@ -150,13 +180,14 @@ module _ (ys : ℕ → List ℕ) (two : (k : ℕ) → length (ys k) ≡ 2) where
   abbrev At : Called → ℕ → ℕ → Type 0
   At c n k = Completes Register n (run ys k c .outcome .driver) (ys k) (run ys k c .pool)
 
-  begun : {d : Driver} {xs p : List ℕ} → Completes Register 29 d xs p → d .flags .«config_pending» ≡ true
+  first-write : {d : Driver} {xs p : List ℕ} → Completes Register 29 d xs p → d .flags .«config_pending» ≡ true
       → (firstSent (run ys 0 (completionCall d xs p)) ≡ 0xE0) × At (completionCall d xs p) 46 0
   unfolding run
-  begun h w = (ap (λ (x : Transfer). x .first) (waits h w .sent .transfer), next (ys 0) (search) (search) h (waits h w) (two 0))
+  first-write h w = (ap (λ (x : Transfer). x .first) (waits h w .sent .transfer), next (ys 0) (search) (search) h (waits h w) (two 0))
 
   link : {r : RF233Register} {v : Value} {s : InternalState} (c : Called) (k n : ℕ) → Plain n → Plain (stateNo s) → eqb n 29 ≡ false
-      → treeAt n ≡ leaf (does [] (writes r v) (to s) []) → At c n k → (firstSent (run ys (suc k) c) ≡ command.registerWrite (registerAddress r)) × At c (stateNo s) (suc k)
+      → treeAt n ≡ leaf (does [] (writes r v) (to s) []) → At c n k
+      → (firstSent (run ys (suc k) c) ≡ command.registerWrite (registerAddress r)) × At c (stateNo s) (suc k)
   unfolding run
   link c k n f g i t h =
       let e = write-case f i t h in
@@ -173,7 +204,7 @@ module _ (ys : ℕ → List ℕ) (two : (k : ℕ) → length (ys k) ≡ 2) where
   unfolding treeAt trees
   whole d xs p h w =
       let c = completionCall d xs p in
-      let e0 = begun h w in
+      let e0 = first-write h w in
       let e1 = link c 0 46 (search) (search) refl refl (e0 .1) in
       let e2 = link c 1 47 (search) (search) refl refl (e1 .1) in
       let e3 = link c 2 48 (search) (search) refl refl (e2 .1) in
@@ -210,16 +241,26 @@ not-read-out n e d xs p b l h r =
     (by-flag (d .flags .transmitting) (λ t. rw (t, h .under-way, own .0, own .1)) (λ t. rw (t, h .under-way, own .0, own .1)))
 
 -- an interrupt's detour in 64: the result passes on to the case of the same state
-detour : (a : Arrived) (d : Driver) (xs p : List ℕ) → Detours 64 d xs p → a .result ≡ getD xs 1 0 → completed a d ≡ caseOf 64 a (flagged hearing false (returned d))
+detour : (a : Arrived) (d : Driver) (xs p : List ℕ) → Detours 64 d xs p → a .result ≡ getD xs 1 0
+    → completed a d ≡ caseOf 64 a (flagged receiving false (transferOver d))
 unfolding completed interruptResult interruptState frameEnd readyBookkeeping pendingInterrupt waitingCommit frameDone pick
-detour a d xs p h r = rw (h .handling, h .state, r, h .no-start, h .no-frame, and-false (bitSet 3 (getD xs 1 0)), h .state, h .pending, and-false)
+detour a d xs p h r =
+    rw (h .handling, h .state, r, h .no-start, h .no-frame, and-false (bitSet 3 (getD xs 1 0)), h .state, h .pending, and-false)
 
-detoured : (d : Driver) (xs p : List ℕ) (b l : ℕ) → Detours 64 d xs p → d .buffers .«rx_buf» ≡ Held b l → 11 ≤ getD xs 1 0 → getD xs 1 0 ≤ 127
+detoured : (d : Driver) (xs p : List ℕ) (b l : ℕ) → Detours 64 d xs p → d .buffers .«rx_buf» ≡ Held b l → 11 ≤ getD xs 1 0
+    → getD xs 1 0 ≤ 127
     → ReadsOut (getD xs 1 0) b l (completionCall d xs p)
 unfolding completionCall completing caseOf treeAt trees eval holds perform frameReadInto pick
 detoured d xs p b l h x e f =
     let own = buf-home d (h .passes .fit) (rw (h .under-way)) in
-    rw (unguarded d p _ (h .passes), h .arrived, detour (arrived d xs p) d xs p h refl, le-leb 11 (getD xs 1 0) e, le-leb (getD xs 1 0) 127 f, h .under-way)
+    rw (
+      unguarded d p _ (h .passes),
+      h .arrived,
+      detour (arrived d xs p) d xs p h refl,
+      le-leb 11 (getD xs 1 0) e,
+      le-leb (getD xs 1 0) 127 f,
+      h .under-way,
+    )
     (record { transfer = rw (x, own) (ap (λ (k : ℕ). transferOf 3 18 b 0x20 (getD xs 1 0) k l) (omega arith)); state = rw (x, own) })
 
 -- the second byte of a write, from what is known of the settings

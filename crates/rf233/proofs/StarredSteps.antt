@@ -13,29 +13,31 @@ use Rattle.rf233_const.specs.Command as command
 use Rattle.rf233_const.specs.Register.{registerAddress}
 use Rattle.rf233_const.specs.declared.register.RF233Register.{RF233Register}
 use Rattle.rf233.specs.Choice.{pick}
-use Rattle.rf233.specs.Calls.{Called, stepping, guarded, completing, completionCall}
-use Rattle.rf233.specs.Completion.{completed, readyBookkeeping, pendingInterrupt, waitingCommit, frameDone, returned}
-use Rattle.rf233.specs.Engine.{caseOf, perform}
-use Rattle.rf233.specs.Pool.{written, copied, readBuffer, shorter}
-use Rattle.rf233.specs.Rows.{treeAt, eval}
+use Rattle.rf233.specs.Guard.{Called, stepping, guarded}
+use Rattle.rf233.specs.Kernel.{completing, completionCall}
+use Rattle.rf233.specs.Completion.{completed, readyBookkeeping, pendingInterrupt, waitingCommit, frameDone, transferOver}
+use Rattle.rf233.specs.Case.{caseOf, perform, treeAt}
+use Rattle.rf233.specs.Pool.{commandWritten, copied, readBuffer, shorter}
+use Rattle.rf233.specs.Rows.{eval}
 use Rattle.rf233.specs.Rows.Access.{writes}
 use Rattle.rf233.specs.Rows.Next.{to}
 use Rattle.rf233.specs.Rows.Row.{does}
 use Rattle.rf233.specs.Rows.Tree.{leaf}
 use Rattle.rf233.specs.State.{stateNo}
 use Rattle.rf233.specs.Transfer.{transferOf, registerTransfer, isIdle}
-use Rattle.rf233.specs.Value.{valueOf}
+use Rattle.rf233.specs.Write.{valueOf}
 use Rattle.rf233.specs.declared.answer.Outcome.{Outcome}
 use Rattle.rf233.specs.declared.driver.Buffers.{Buffers}
 use Rattle.rf233.specs.declared.driver.Driver.{Driver}
 use Rattle.rf233.specs.declared.driver.Under.{Under}
 use Rattle.rf233.specs.declared.driver.Under.the-variants.{Register}
-use Rattle.rf233.specs.declared.startup.Value.{Value}
+use Rattle.rf233.specs.declared.write.Value.{Value}
 use Rattle.rf233.specs.declared.state.InternalState.{InternalState}
+use Rattle.laws.proofs.Logic.{none-right}
 use Rattle.rf233.proofs.Accepted.{arrived}
 use Rattle.rf233.proofs.OwnBuffers.{Plain, moved, same-record}
-use Rattle.rf233.proofs.PoolLaws.{written-length, copied-length}
-use Rattle.rf233.proofs.Sound.{none-right, read-fits, shorter-fits}
+use Rattle.rf233.proofs.PoolLaws.{command-written-length, copied-length}
+use Rattle.rf233.proofs.Sound.{read-fits, shorter-fits}
 use Rattle.rf233.proofs.Starred.{Passes12, In, Completes, Sends}
 
 -- a call that 12 does not stop
@@ -45,8 +47,9 @@ unguarded d p c h = rw (eq-eqb (length p) 3040 (h .pool), h .fit)
 
 -- the bytes of a register transfer in a pool of 3,040
 bytes : (k first second : ℕ) (q : List ℕ) → length q ≡ 3040 → eqb k 0 ≡ false → ltb k 3 ≡ true
-    → (getD (written (transferOf k 16 17 first second 2 2) q) 2560 0 ≡ first) × (getD (written (transferOf k 16 17 first second 2 2) q) 2561 0 ≡ second)
-unfolding written pick
+    → (getD (commandWritten (transferOf k 16 17 first second 2 2) q) 2560 0 ≡ first)
+    × (getD (commandWritten (transferOf k 16 17 first second 2 2) q) 2561 0 ≡ second)
+unfolding commandWritten pick
 bytes k first second q l e f = (
   rw (e, f, getD-set-other (set q 2560 first) 2561 2560 second 0 (λ x. omega arith), getD-set-same q 2560 first 0 (omega arith)),
   rw (e, f, getD-set-same (set q 2560 first) 2561 second 0 (rw (length-set) (omega arith))),
@@ -72,19 +75,20 @@ module _ {u : Under} {n : ℕ} {d : Driver} {xs p : List ℕ} (h : Completes u n
       omega (arith, read-fits d (h .passes .fit), shorter-fits d (h .passes .fit), h .passes .pool))
       ∙ h .passes .pool
 
-  -- the step is taken
-  pub taken : isIdle u ≡ false → completionCall d xs p ≡ stepping (completed (arrived d xs p) d) (brought d xs p)
+  -- it is accepted, and the step is made
+  pub accepted-step : isIdle u ≡ false → completionCall d xs p ≡ stepping (completed (arrived d xs p) d) (brought d xs p)
   unfolding completionCall completing pick
-  taken i = rw (unguarded d p _ (h .passes), h .arrived, ap isIdle (h .under-way) ∙ i)
+  accepted-step i = rw (unguarded d p _ (h .passes), h .arrived, ap isIdle (h .under-way) ∙ i)
 
   -- outside READY it is the own case of the state m that the transfer leaves
   pub straight : (m : ℕ) → isIdle u ≡ false → stateNo (frameDone false (d .state)) ≡ m → eqb m 29 ≡ false
-      → completionCall d xs p ≡ stepping (caseOf m (arrived d xs p) (returned d)) (brought d xs p)
+      → completionCall d xs p ≡ stepping (caseOf m (arrived d xs p) (transferOver d)) (brought d xs p)
   unfolding completed readyBookkeeping pendingInterrupt waitingCommit pick
-  straight m i s e = rw (taken i, h .handling, s, e, h .pending, and-false)
+  straight m i s e = rw (accepted-step i, h .handling, s, e, h .pending, and-false)
 
 -- the end of a register transfer moves the state only where a state names a frame transfer
-unframed : (a b c : Bool) (x y z s : InternalState) → _≡_ {A = ℕ} (cond a 2 (cond (b || (c || false)) 1 0)) 0 → pick a x (pick b y (pick c z s)) ≡ s
+unframed : (a b c : Bool) (x y z s : InternalState) → _≡_ {A = ℕ} (cond a 2 (cond (b || (c || false)) 1 0)) 0
+    → pick a x (pick b y (pick c z s)) ≡ s
 unfolding pick
 unframed true b c x y z s e = absurd (omega arith)
 unframed false true c x y z s e = absurd (omega arith)
@@ -104,12 +108,18 @@ pub record Goes (first second n : ℕ) (d : Driver) (c : Called) : Type 0 where
   pub pending : c .outcome .driver .flags .«interrupt_pending» ≡ false
 
 -- the next completion, of two bytes, finds what it needs
-pub next : {n m first second : ℕ} {d : Driver} {xs p : List ℕ} {c : Called} (ys : List ℕ) → Plain n → Plain m → Completes Register n d xs p → Goes first second m d c
+pub next : {n m first second : ℕ} {d : Driver} {xs p : List ℕ} {c : Called} (ys : List ℕ) → Plain n → Plain m
+    → Completes Register n d xs p → Goes first second m d c
     → length ys ≡ 2 → Completes Register m (c .outcome .driver) ys (c .pool)
 next {n} {m} {d = d} {c = c} ys f g h e l =
     let u = ap (λ (b : Buffers). b .under) (e .buffers) ∙ h .under-way in
     record {
-      passes = record { pool = e .pool; fit = moved n m d (c .outcome .driver) f g (h .state) (e .sent .state) (h .under-way) (e .buffers) ∙ h .passes .fit };
+      passes =
+          record {
+            pool = e .pool;
+            fit = moved n m d (c .outcome .driver) f g (h .state) (e .sent .state) (h .under-way) (e .buffers)
+                ∙ h .passes .fit;
+          };
       state = e .sent .state;
       under-way = u;
       arrived = rw (u, l);
@@ -126,7 +136,7 @@ module _ {n : ℕ} {r : RF233Register} {v : Value} {s : InternalState} {d : Driv
       rw (straight h n refl (rw (unmoved n (d .state) c (h .state)) (h .state)) f, t)
       (record {
         sent = sends _ _ (still h) refl refl (rw (h .under-way)) (rw (h .under-way));
-        pool = written-length _ _ ∙ still h;
+        pool = command-written-length _ _ ∙ still h;
         buffers = same-record d (h .passes .fit) _ (h .under-way) (rw (h .under-way));
         handling = rw (h .under-way);
         pending = rw (h .under-way) (h .pending);

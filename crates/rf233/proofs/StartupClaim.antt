@@ -12,34 +12,79 @@ use borrow.Author.Tests.{eqb-true, eqb-false, le-leb, not-true, not-false}
 use lib.ListN.{getD}
 use Rattle.rf233_const.specs.Bits.{bitSet}
 use Rattle.rf233.specs.Choice.{pick, oneOf}
-use Rattle.rf233.specs.Completion.{inNo, completed, interruptResult, frameEnd, readyBookkeeping, pendingInterrupt, waitingCommit, handleInterrupt, interruptState, frameDone, pllLock, rxStart, trxEnd}
-use Rattle.rf233.specs.Calls.{startCall, started, completionCall, firedCall}
-use Rattle.rf233.specs.Driver.{driver, flagsOf}
-use Rattle.rf233.specs.Engine.{caseOf, perform}
-use Rattle.rf233.specs.New.{newDriver}
-use Rattle.rf233.specs.Record.{poolFault}
-use Rattle.rf233.specs.Rows.{eval, trees, treeAt, holds}
-use Rattle.rf233.specs.Startup.{after, accepted, showsLock, Starting, StartsWithin30, StartupClaim}
-use Rattle.rf233.specs.Startup.Starting.{begins, completes, fires, completionRefused, firingRefused}
+use Rattle.rf233.specs.Driver.{inNo, driverOf, flagsOf}
+use Rattle.rf233.specs.Completion.{completed, interruptResult, frameEnd, readyBookkeeping, pendingInterrupt, waitingCommit, frameDone}
+use Rattle.rf233.specs.Interrupt.{handleInterrupt, interruptState, pllLock, rxStart, trxEnd}
+use Rattle.rf233.specs.Config.{startCall, beginStart}
+use Rattle.rf233.specs.Kernel.{completionCall, firedCall}
+use Rattle.rf233.specs.Case.{caseOf, perform, trees, treeAt}
+use Rattle.rf233.specs.Create.{newDriver}
+use Rattle.rf233.specs.Guard.{poolFault}
+use Rattle.rf233.specs.Rows.{eval, holds}
+use Rattle.rf233.specs.StartupClaim.{after, accepted, showsLock, Starting, StartsWithin30, StartupClaim}
+use Rattle.rf233.specs.StartupClaim.Starting.{begins, completes, fires, completionRefused, firingRefused}
 use Rattle.rf233.specs.State.{stateNo}
-use Rattle.rf233.specs.Transfer.{isIdle, recorded, registerTransfer}
+use Rattle.rf233.specs.Transfer.{isIdle, recordWith, registerTransfer}
 use Rattle.rf233.specs.declared.arrived.Arrived.{Arrived}
 use Rattle.rf233.specs.declared.driver.Driver.{Driver}
 use Rattle.rf233.specs.declared.driver.Slot.the-variants.{Empty}
 use Rattle.rf233.specs.declared.driver.Under.{Under}
 use Rattle.rf233.specs.declared.driver.Under.the-variants.{Idle, Register}
 use Rattle.rf233.specs.declared.state.InternalState.{InternalState}
-use Rattle.rf233.proofs.Accepted.{past, clash, arrived, fired-accepted, completion-accepted, had-transfer, fired-refused, completion-refused}
+use Rattle.laws.proofs.Logic.{clash, both-left, both-right}
+use Rattle.rf233.proofs.Accepted.{
+  past,
+  arrived,
+  fired-accepted,
+  completion-accepted,
+  had-transfer,
+  fired-refused,
+  completion-refused,
+}
 use Rattle.rf233.proofs.Keys.{range}
 use Rattle.rf233.proofs.Tables.{in-range}
-use Rattle.rf233.proofs.Sound.{both-left, both-right}
-use Rattle.rf233.specs.declared.state.InternalState.the-variants.{START, «START_PART_READ», «START_STATUS_READ», «START_TURNING_OFF», «START_CTRL1_SET», «START_CCA_SET», «START_PWR_SET», «START_CTRL2_SET», «START_IRQMASK_SET», «START_XAH1_SET», «START_XAH0_SET», «START_PANID0_SET», «START_PANID1_SET», «START_IEEE0_SET», «START_IEEE1_SET», «START_IEEE2_SET», «START_IEEE3_SET», «START_IEEE4_SET», «START_IEEE5_SET», «START_IEEE6_SET», «START_IEEE7_SET», «START_SHORT0_SET», «START_SHORT1_SET», «START_CSMA_0_SEEDED», «START_CSMA_1_SEEDED», «START_RPC_SET», «ON_STATUS_READ», «ON_PLL_WAITING», «ON_PLL_SET», READY}
+use Rattle.rf233.specs.declared.state.InternalState.the-variants.{
+  START,
+  «START_PART_READ»,
+  «START_STATUS_READ»,
+  «START_TURNING_OFF»,
+  «START_CTRL1_SET»,
+  «START_CCA_SET»,
+  «START_PWR_SET»,
+  «START_CTRL2_SET»,
+  «START_IRQMASK_SET»,
+  «START_XAH1_SET»,
+  «START_XAH0_SET»,
+  «START_PANID0_SET»,
+  «START_PANID1_SET»,
+  «START_IEEE0_SET»,
+  «START_IEEE1_SET»,
+  «START_IEEE2_SET»,
+  «START_IEEE3_SET»,
+  «START_IEEE4_SET»,
+  «START_IEEE5_SET»,
+  «START_IEEE6_SET»,
+  «START_IEEE7_SET»,
+  «START_SHORT0_SET»,
+  «START_SHORT1_SET»,
+  «START_CSMA_0_SEEDED»,
+  «START_CSMA_1_SEEDED»,
+  «START_RPC_SET»,
+  «ON_STATUS_READ»,
+  «ON_PLL_WAITING»,
+  «ON_PLL_SET»,
+  READY,
+}
 
 -- the states of a startup, by number
 states : List InternalState
 states =
-    START ∷ «START_PART_READ» ∷ «START_STATUS_READ» ∷ «START_TURNING_OFF» ∷ «START_CTRL1_SET» ∷ «START_CCA_SET» ∷ «START_PWR_SET» ∷ «START_CTRL2_SET» ∷ «START_IRQMASK_SET» ∷ «START_XAH1_SET» ∷ «START_XAH0_SET» ∷ «START_PANID0_SET» ∷ «START_PANID1_SET» ∷ «START_IEEE0_SET» ∷ «START_IEEE1_SET»
-    ∷ «START_IEEE2_SET» ∷ «START_IEEE3_SET» ∷ «START_IEEE4_SET» ∷ «START_IEEE5_SET» ∷ «START_IEEE6_SET» ∷ «START_IEEE7_SET» ∷ «START_SHORT0_SET» ∷ «START_SHORT1_SET» ∷ «START_CSMA_0_SEEDED» ∷ «START_CSMA_1_SEEDED» ∷ «START_RPC_SET» ∷ «ON_STATUS_READ» ∷ «ON_PLL_WAITING» ∷ «ON_PLL_SET» ∷ READY ∷ []
+    START ∷ «START_PART_READ» ∷ «START_STATUS_READ» ∷ «START_TURNING_OFF» ∷ «START_CTRL1_SET» ∷ «START_CCA_SET» ∷ «START_PWR_SET»
+    ∷ «START_CTRL2_SET» ∷ «START_IRQMASK_SET» ∷ «START_XAH1_SET» ∷ «START_XAH0_SET» ∷ «START_PANID0_SET» ∷ «START_PANID1_SET»
+    ∷ «START_IEEE0_SET» ∷ «START_IEEE1_SET»
+    ∷ «START_IEEE2_SET» ∷ «START_IEEE3_SET» ∷ «START_IEEE4_SET» ∷ «START_IEEE5_SET» ∷ «START_IEEE6_SET» ∷ «START_IEEE7_SET»
+    ∷ «START_SHORT0_SET» ∷ «START_SHORT1_SET» ∷ «START_CSMA_0_SEEDED» ∷ «START_CSMA_1_SEEDED» ∷ «START_RPC_SET» ∷ «ON_STATUS_READ»
+    ∷ «ON_PLL_WAITING» ∷ «ON_PLL_SET» ∷ READY ∷ []
 
 abbrev stateAt : ℕ → InternalState
 stateAt n = getD states n START
@@ -53,8 +98,8 @@ data Stage : Type 0 where
 -- the driver in a state, by its flags radio_on, handling, pending and wake_pending, and whether a register transfer is under way
 staged : ℕ → ℕ → InternalState → Bool → Bool → Bool → Bool → Bool → Driver
 staged l c s o h i w e =
-    driver s (flagsOf o false false false h i false false w false) (newDriver l c .clients) (newDriver l c .settings)
-    (recorded e e true l Empty Empty (pick e Idle Register) (newDriver l c .buffers))
+    driverOf s (flagsOf o false false false h i false false w false) (newDriver l c .clients) (newDriver l c .settings)
+    (recordWith e e true l Empty Empty (pick e Idle Register) (newDriver l c .buffers))
 
 stage : ℕ → ℕ → Stage → Driver
 stage l c (at n) = staged l c (stateAt n) false false false true false
@@ -86,16 +131,19 @@ entered l c a n = stage l c (advance a (at n))
 
 -- the bytes are not looked at in 0 and 1, and in 3 to 27
 leads-first : (l c : ℕ) (a : Arrived) → map (left l c a) (range 0 2) ≡ map (entered l c a) (range 0 2)
-unfolding stage staged states advance completed readyBookkeeping pendingInterrupt waitingCommit frameDone caseOf perform eval trees treeAt registerTransfer pick
+unfolding stage staged states advance completed readyBookkeeping pendingInterrupt waitingCommit frameDone caseOf perform eval trees
+    treeAt registerTransfer pick
 leads-first l c a = refl
 
 leads-plain : (l c : ℕ) (a : Arrived) → map (left l c a) (range 3 25) ≡ map (entered l c a) (range 3 25)
-unfolding stage staged states advance completed readyBookkeeping pendingInterrupt waitingCommit frameDone caseOf perform eval trees treeAt registerTransfer pick
+unfolding stage staged states advance completed readyBookkeeping pendingInterrupt waitingCommit frameDone caseOf perform eval trees
+    treeAt registerTransfer pick
 leads-plain l c a = refl
 
 -- state 2 looks at the status: 0 leads to 3, any other to 4
 leads-2 : Leads 2
-unfolding stage staged states advance completed readyBookkeeping pendingInterrupt waitingCommit frameDone caseOf perform eval trees treeAt registerTransfer pick holds
+unfolding stage staged states advance completed readyBookkeeping pendingInterrupt waitingCommit frameDone caseOf perform eval trees
+    treeAt registerTransfer pick holds
 leads-2 l c a = go (oneOf (0 ∷ []) (a .status)) refl
   where
     go : (t : Bool) → oneOf (0 ∷ []) (a .status) ≡ t → completed a (stage l c (at 2)) .driver ≡ stage l c (advance a (at 2))
@@ -103,7 +151,8 @@ leads-2 l c a = go (oneOf (0 ∷ []) (a .status)) refl
     go false e = rw e
 
 leads-29 : (l c : ℕ) (a : Arrived) → completed a (stage l c (at 29)) .driver ≡ stage l c ready
-unfolding stage staged states advance completed readyBookkeeping pendingInterrupt waitingCommit frameDone caseOf perform eval trees treeAt registerTransfer pick holds
+unfolding stage staged states advance completed readyBookkeeping pendingInterrupt waitingCommit frameDone caseOf perform eval trees
+    treeAt registerTransfer pick holds
 leads-29 l c a = refl
 
 -- a completion with an interrupt pending starts the read of IRQ_STATUS
@@ -113,7 +162,8 @@ leads-pending l c a = refl
 
 -- the read that shows bit 0 and not bit 2 leads on to READY's write, whatever bit 3 is
 leads-reading : (l c : ℕ) (a : Arrived) → pllLock a ≡ true → rxStart a ≡ false → completed a (stage l c reading) .driver ≡ stage l c (at 29)
-unfolding stage staged states advance completed readyBookkeeping pendingInterrupt waitingCommit frameDone caseOf perform eval trees treeAt registerTransfer pick interruptResult interruptState frameEnd
+unfolding stage staged states advance completed readyBookkeeping pendingInterrupt waitingCommit frameDone caseOf perform eval trees
+    treeAt registerTransfer pick interruptResult interruptState frameEnd
 leads-reading l c a lock start = go (trxEnd a) refl
   where
     go : (t : Bool) → trxEnd a ≡ t → completed a (stage l c reading) .driver ≡ stage l c (at 29)
@@ -130,7 +180,7 @@ unfolding stage staged handleInterrupt registerTransfer pick
 fires-waiting l c = refl
 
 starts : (l c : ℕ) (p : List ℕ) → accepted (startCall (newDriver l c) p) ≡ true → after (startCall (newDriver l c) p) ≡ stage l c (at 0)
-unfolding stage staged states startCall started registerTransfer pick
+unfolding stage staged states startCall beginStart registerTransfer pick
 starts l c p e = ap after (past (poolFault (newDriver l c) p) _ _ refl e)
 
 -- the number of a stage's state is the stage's
@@ -275,7 +325,8 @@ firing-from : (l c n : ℕ) (s : Stage) → n ≤ most s → T (goes false s) �
 unfolding stage staged
 firing-from l c n (at m) k g e =
     let h : m ≤ 27 = leb→le m 27 (before (leb m 27) (eqb m 29) g) in
-    let i : m ≡ 27 = sym (in-range (λ x. stateNo (stateAt x)) (λ x. x) 0 28 m numbered (omega arith) (omega arith)) ∙ eqb-true (stateNo (stateAt m)) 27 e in
+    let i : m ≡ 27 = sym (in-range (λ x. stateNo (stateAt x)) (λ x. x) 0 28 m numbered (omega arith) (omega arith)) ∙ eqb-true
+    (stateNo (stateAt m)) 27 e in
     subst (λ x. Stands l c n true (handleInterrupt (stage l c (at x)) .driver)) (sym i)
     (record { in-stage = pending; is = fires-27 l c; few = omega arith; with-firing = tt })
 firing-from l c n waiting k g e = record { in-stage = reading; is = fires-waiting l c; few = k; with-firing = tt }
@@ -288,7 +339,8 @@ after-completion : (l c n : ℕ) (f : Bool) (d : Driver) (xs p : List ℕ) → S
     → showsLock d xs ≡ true → Stands l c (n + 1) f (after (completionCall d xs p))
 after-completion l c n f d xs p k e b =
     let s = k .in-stage in
-    let busy : under-way s ≡ true = not-false (under-way s) (sym (idle-is l c s) ∙ (ap (λ x. isIdle (x .buffers .under)) (sym (k .is)) ∙ had-transfer d xs p e)) in
+    let busy : under-way s ≡ true = not-false (under-way s)
+    (sym (idle-is l c s) ∙ (ap (λ x. isIdle (x .buffers .under)) (sym (k .is)) ∙ had-transfer d xs p e)) in
     subst (Stands l c (n + 1) f) (sym (completion-accepted d xs p e))
     (subst (λ x. Stands l c (n + 1) f (completed (arrived d xs p) x .driver)) (sym (k .is))
     (goes-on l c n f s (arrived d xs p) (k .few) (k .with-firing) (subst T (sym busy) tt)

@@ -8,34 +8,15 @@ use native.Mathlib.Omega.{arith}
 use lib.Dec.{T, eqb, ltb, eqb-refl, lit<, lt→ltb}
 use borrow.Author.Tests.{eqb-true, eqb-false, ne-eqb, ltb-false}
 use Rattle.rf233.proofs.Conditions.{by-flag}
-use Rattle.rf233.proofs.Logic.{is-true}
+use Rattle.laws.proofs.Logic.{is-true, none-left, none-right, both-ways, or-left, or-right, or-case}
 use Rattle.rf233.proofs.OwnBuffers.{only-16, only-17, only-18, slot-below}
-use Rattle.rf233.proofs.Sound.{none-left, none-right}
-use Rattle.rf233.specs.Record.{slotHas, underHas, ownHas, slotAbove, underSlot, one, countOf, recordHas, twiceBelow, recordedTwice, ownNowhere, clientAbove, sameBuffer, ownWrong}
+use Rattle.rf233.specs.Record.{slotHas, underHas, ownHas, one, countOf, recordHas}
+use Rattle.rf233.specs.Described.{slotAbove, underSlot, twiceBelow, recordedTwice, ownNowhere, clientAbove, sameBuffer, ownWrong}
 use Rattle.rf233.specs.declared.driver.Buffers.{Buffers}
 use Rattle.rf233.specs.declared.driver.Slot.{Slot}
 use Rattle.rf233.specs.declared.driver.Slot.the-variants.{Empty, Held}
 use Rattle.rf233.specs.declared.driver.Under.{Under}
 use Rattle.rf233.specs.declared.driver.Under.the-variants.{Idle, Register, FrameRead, FrameWrite}
-
--- tests that follow from each other are equal
-both-ways : (a b : Bool) → (T a → T b) → (T b → T a) → a ≡ b
-both-ways true true f g = refl
-both-ways true false f g = absurd (f tt)
-both-ways false true f g = absurd (g tt)
-both-ways false false f g = refl
-
-or-left : (a b : Bool) → T a → T (a || b)
-or-left true b t = tt
-or-left false b t = absurd t
-
-or-right : (a b : Bool) → T b → T (a || b)
-or-right true b t = tt
-or-right false b t = t
-
-or-case : {A : Type 0} (a b : Bool) → T (a || b) → (T a → A) → (T b → A) → A
-or-case true b t f g = f tt
-or-case false b t f g = g t
 
 -- two places that have a buffer name the same one, and the other way round
 same : (x y : Slot) (k : ℕ) → slotHas x k ≡ true → slotHas y k ≡ true → T (sameBuffer x y)
@@ -101,7 +82,15 @@ module _ (r : Buffers) where
   count-client : (k : ℕ) → k < 16 → countOf r k ≡ 0 + one (slotHas tx k) + one (slotHas rx k) + one (slotHas going k)
   unfolding countOf
   count-client k h =
-      rw (ne-eqb 16 k (λ e. omega arith), ne-eqb 17 k (λ e. omega arith), ne-eqb 18 k (λ e. omega arith), and-false (r .«spi_tx»), and-false (r .«spi_rx»), and-false (r .«spi_buf»), under-client (r .under) k h)
+      rw (
+        ne-eqb 16 k (λ e. omega arith),
+        ne-eqb 17 k (λ e. omega arith),
+        ne-eqb 18 k (λ e. omega arith),
+        and-false (r .«spi_tx»),
+        and-false (r .«spi_rx»),
+        and-false (r .«spi_buf»),
+        under-client (r .under) k h,
+      )
 
   -- a client's buffer that is recorded twice stands in two of the places
   in-two : (k : ℕ) → T (ltb 1 (0 + one (slotHas tx k) + one (slotHas rx k) + one (slotHas going k))) → T (clientTwice r)
@@ -129,10 +118,13 @@ module _ (r : Buffers) where
     from-two : T (clientTwice r) → T (twiceBelow r 16)
     from-two t =
         or-case (sameBuffer tx rx) _ t
-        (λ t. same-one tx rx tx-low t (λ k h x y. is-below 16 k h (lt→ltb 1 (countOf r k) (omega (arith, rw (x, y) at (count-client k h))))))
+        (λ t. same-one tx rx tx-low t (λ k h x y. is-below 16 k h
+        (lt→ltb 1 (countOf r k) (omega (arith, rw (x, y) at (count-client k h))))))
         (λ t. or-case (sameBuffer tx going) _ t
-        (λ t. same-one tx going tx-low t (λ k h x z. is-below 16 k h (lt→ltb 1 (countOf r k) (omega (arith, rw (x, z) at (count-client k h))))))
-        (λ t. same-one rx going rx-low t (λ k h y z. is-below 16 k h (lt→ltb 1 (countOf r k) (omega (arith, rw (y, z) at (count-client k h)))))))
+        (λ t. same-one tx going tx-low t
+        (λ k h x z. is-below 16 k h (lt→ltb 1 (countOf r k) (omega (arith, rw (x, z) at (count-client k h))))))
+        (λ t. same-one rx going rx-low t
+        (λ k h y z. is-below 16 k h (lt→ltb 1 (countOf r k) (omega (arith, rw (y, z) at (count-client k h)))))))
 
     clients : twiceBelow r 16 ≡ clientTwice r
     clients = both-ways (twiceBelow r 16) (clientTwice r) (λ t. found 16 t (λ k h x. in-two k (rw (count-client k h) at x))) from-two
@@ -155,11 +147,20 @@ module _ (r : Buffers) where
   owns Idle low m rest = simp (and-false, or-false, or-assoc)
   owns Register low m rest = simp (and-true, and-false, or-true, or-false, or-assoc)
   owns (FrameRead c l) low m rest =
-      rw (slot-below (Held c l) 16 (lit< tt) low, slot-below (Held c l) 17 (lit< tt) low) (simp (and-true, and-false, or-true, or-false, or-assoc))
+      rw (
+        slot-below (Held c l) 16 (lit< tt) low,
+        slot-below (Held c l) 17 (lit< tt) low,
+      )
+      (simp (and-true, and-false, or-true, or-false, or-assoc))
   owns (FrameWrite c l) low m rest =
-      rw (slot-below (Held c l) 16 (lit< tt) low, slot-below (Held c l) 17 (lit< tt) low) (simp (and-true, and-false, or-true, or-false, or-assoc))
+      rw (
+        slot-below (Held c l) 16 (lit< tt) low,
+        slot-below (Held c l) 17 (lit< tt) low,
+      )
+      (simp (and-true, and-false, or-true, or-false, or-assoc))
 
-  pub uncounted : (rest : Bool) → recordedTwice r || (ownNowhere r || (clientAbove r || rest)) ≡ clientAbove r || (clientTwice r || (ownWrong (r .under) r || rest))
+  pub uncounted : (rest : Bool) → recordedTwice r || (ownNowhere r || (clientAbove r || rest)) ≡ clientAbove r
+      || (clientTwice r || (ownWrong (r .under) r || rest))
   uncounted rest =
       by-flag (clientAbove r) (λ e. rw e (simp or-true))
       (λ e.

@@ -1,11 +1,29 @@
 -- Document 01's refusals by number ("Who can cause which refusal"), and what a call yields: a step that was taken, or a refusal.
 use Prim.Native.Nat.{ℕ}
-use mathlib.Core.List.{[]}
+use mathlib.Core.List.{List, [], _∷_}
+use lib.ListN.{getD}
 use Rattle.rf233.specs.Action.{actions}
 use Rattle.rf233.specs.Transfer.{noTransfer, refrains}
 use Rattle.rf233.specs.declared.action.Actions.{Actions}
 use Rattle.rf233.specs.declared.answer.Answer.{Answer}
-use Rattle.rf233.specs.declared.answer.Answer.the-variants.{Done, Off, Busy, Size, Long, Inval, Already, Handle, Held, Short, Full, Idle, Pool, Arrived, Configure, New}
+use Rattle.rf233.specs.declared.answer.Answer.the-variants.{
+  Done,
+  Off,
+  Busy,
+  Size,
+  Long,
+  Inval,
+  Already,
+  Handle,
+  Held,
+  Short,
+  Full,
+  Idle,
+  Pool,
+  Arrived,
+  Configure,
+  New,
+}
 use Rattle.rf233.specs.declared.answer.Outcome.{Outcome}
 use Rattle.rf233.specs.declared.driver.Driver.{Driver}
 use Rattle.rf233.specs.declared.transfer.Started.{Started}
@@ -29,7 +47,16 @@ answerNo Arrived = 13
 answerNo Configure = 14
 answerNo New = 15
 
--- a step that was taken: what a starter left, and these actions
+-- the answers in the order of their numbers
+abbrev pub answers : List Answer
+answers =
+    Done ∷ Off ∷ Busy ∷ Size ∷ Long ∷ Inval ∷ Already ∷ Handle ∷ Held ∷ Short ∷ Full ∷ Idle ∷ Pool ∷ Arrived ∷ Configure ∷ New ∷ []
+
+-- the answer of a number; `answerNo` gives it back (`answer-of-number` and `number-of-answer` in proofs/Answers.antt)
+abbrev pub answerOf : ℕ → Answer
+answerOf n = getD answers n Done
+
+-- a step that is done: what a starter left, and these actions
 abbrev pub stepOf : Started → Actions → Outcome
 stepOf s l = record { driver = s .driver; reply = record { answer = Done; transfer = s .transfer; actions = l } }
 
@@ -37,6 +64,6 @@ stepOf s l = record { driver = s .driver; reply = record { answer = Done; transf
 abbrev pub quiet : Driver → Actions → Outcome
 quiet d l = stepOf (refrains d) l
 
--- a refusal: no transfer, no actions
-abbrev pub refused : Answer → Driver → Outcome
-refused a d = record { driver = d; reply = record { answer = a; transfer = noTransfer; actions = actions [] } }
+-- the refusal of this number: no transfer, no actions
+abbrev pub refused : ℕ → Driver → Outcome
+refused n d = record { driver = d; reply = record { answer = answerOf n; transfer = noTransfer; actions = actions [] } }

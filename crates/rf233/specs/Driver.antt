@@ -5,6 +5,7 @@ use mathlib.Core.List.{List, [], _∷_}
 use lib.Dec.{eqb}
 use Rattle.rf233_const.specs.Bits.{bitSet}
 use Rattle.rf233_const.specs.Flags.{rxCrcValidBit}
+use Rattle.rf233.specs.State.{stateNo}
 use Rattle.rf233.specs.declared.state.InternalState.{InternalState}
 use Rattle.rf233.specs.declared.driver.Flags.{Flags}
 use Rattle.rf233.specs.declared.driver.Clients.{Clients}
@@ -14,7 +15,8 @@ use Rattle.rf233.specs.declared.driver.Driver.{Driver}
 
 -- the Rust's cells of a bool, in the order of `Flags`
 pub data Flag : Type 0 where
-  radioOn sending hearing crcValid handling irqPending configPending sleepPending wakePending powerPending : Flag
+  radioOn transmitting receiving crcValid interruptHandling interruptPending configPending sleepPending wakePending powerClientPending :
+      Flag
 
 -- the flags of these values, in that order
 abbrev pub flagsOf : Bool → Bool → Bool → Bool → Bool → Bool → Bool → Bool → Bool → Bool → Flags
@@ -35,28 +37,28 @@ flagsOf a b c d e f g h i j =
 -- the value of a flag
 abbrev pub flag : Flag → Flags → Bool
 flag radioOn f = f .«radio_on»
-flag sending f = f .transmitting
-flag hearing f = f .receiving
+flag transmitting f = f .transmitting
+flag receiving f = f .receiving
 flag crcValid f = f .«crc_valid»
-flag handling f = f .«interrupt_handling»
-flag irqPending f = f .«interrupt_pending»
+flag interruptHandling f = f .«interrupt_handling»
+flag interruptPending f = f .«interrupt_pending»
 flag configPending f = f .«config_pending»
 flag sleepPending f = f .«sleep_pending»
 flag wakePending f = f .«wake_pending»
-flag powerPending f = f .«power_client_pending»
+flag powerClientPending f = f .«power_client_pending»
 
 -- numbers, to tell flags apart
 abbrev pub flagNo : Flag → ℕ
 flagNo radioOn = 0
-flagNo sending = 1
-flagNo hearing = 2
+flagNo transmitting = 1
+flagNo receiving = 2
 flagNo crcValid = 3
-flagNo handling = 4
-flagNo irqPending = 5
+flagNo interruptHandling = 4
+flagNo interruptPending = 5
 flagNo configPending = 6
 flagNo sleepPending = 7
 flagNo wakePending = 8
-flagNo powerPending = 9
+flagNo powerClientPending = 9
 
 -- the value of flag y once flag x is v
 abbrev pub after : Flag → Bool → Flags → Flag → Bool
@@ -65,19 +67,20 @@ after x v f y = cond (eqb (flagNo x) (flagNo y)) v (flag y f)
 -- the flags with x set to v
 abbrev pub setFlag : Flag → Bool → Flags → Flags
 setFlag x v f =
-    flagsOf (after x v f radioOn) (after x v f sending) (after x v f hearing) (after x v f crcValid) (after x v f handling)
-    (after x v f irqPending) (after x v f configPending) (after x v f sleepPending) (after x v f wakePending) (after x v f powerPending)
+    flagsOf (after x v f radioOn) (after x v f transmitting) (after x v f receiving) (after x v f crcValid) (after x v f interruptHandling)
+    (after x v f interruptPending) (after x v f configPending) (after x v f sleepPending) (after x v f wakePending)
+    (after x v f powerClientPending)
 
--- a flag and its new value; `putCrc`: crc_valid is set to what the byte read from PHY_RSSI says
-pub data Setting : Type 0 where
-  put : Flag → Bool → Setting
-  putCrc : Setting
+-- an assignment of a flag: its new value; `putCrc`: crc_valid becomes what the byte read from PHY_RSSI says
+pub data Assignment : Type 0 where
+  put : Flag → Bool → Assignment
+  putCrc : Assignment
 
--- the flags after these settings, made in order; r is the result byte
-abbrev pub setAll : ℕ → List Setting → Flags → Flags
-setAll r [] f = f
-setAll r (put x v ∷ more) f = setAll r more (setFlag x v f)
-setAll r (putCrc ∷ more) f = setAll r more (setFlag crcValid (bitSet rxCrcValidBit r) f)
+-- the flags after these assignments, made in order; r is the result byte
+abbrev pub assignAll : ℕ → List Assignment → Flags → Flags
+assignAll r [] f = f
+assignAll r (put x v ∷ more) f = assignAll r more (setFlag x v f)
+assignAll r (putCrc ∷ more) f = assignAll r more (setFlag crcValid (bitSet rxCrcValidBit r) f)
 
 -- the four listeners
 pub data Client : Type 0 where
@@ -91,20 +94,20 @@ client cfgClient c = c .«cfg_client»
 client powerClient c = c .«power_client»
 
 -- the driver of these parts
-abbrev pub driver : InternalState → Flags → Clients → Settings → Buffers → Driver
-driver s f c v b = record { state = s; flags = f; clients = c; settings = v; buffers = b }
+abbrev pub driverOf : InternalState → Flags → Clients → Settings → Buffers → Driver
+driverOf s f c v b = record { state = s; flags = f; clients = c; settings = v; buffers = b }
 
--- the driver in state s
-abbrev pub inState : InternalState → Driver → Driver
-inState s d = driver s (d .flags) (d .clients) (d .settings) (d .buffers)
+-- the driver in another state
+abbrev pub withState : InternalState → Driver → Driver
+withState s d = driverOf s (d .flags) (d .clients) (d .settings) (d .buffers)
 
 -- the driver with these flags
 abbrev pub withFlags : Flags → Driver → Driver
-withFlags f d = driver (d .state) f (d .clients) (d .settings) (d .buffers)
+withFlags f d = driverOf (d .state) f (d .clients) (d .settings) (d .buffers)
 
--- the driver after these settings of its flags
-abbrev pub setting : ℕ → List Setting → Driver → Driver
-setting r l d = withFlags (setAll r l (d .flags)) d
+-- the driver after these assignments of its flags
+abbrev pub assigning : ℕ → List Assignment → Driver → Driver
+assigning r l d = withFlags (assignAll r l (d .flags)) d
 
 -- the driver with one flag set
 abbrev pub flagged : Flag → Bool → Driver → Driver
@@ -112,4 +115,8 @@ flagged x v d = withFlags (setFlag x v (d .flags)) d
 
 -- the driver with this record of its buffers
 abbrev pub withBuffers : Buffers → Driver → Driver
-withBuffers b d = driver (d .state) (d .flags) (d .clients) (d .settings) b
+withBuffers b d = driverOf (d .state) (d .flags) (d .clients) (d .settings) b
+
+-- the driver is in the state of this number
+abbrev pub inNo : ℕ → Driver → Bool
+inNo n d = eqb (stateNo (d .state)) n

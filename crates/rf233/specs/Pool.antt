@@ -5,7 +5,7 @@ use mathlib.Core.List.{List, _++_}
 use lib.Dec.{eqb, ltb}
 use lib.ListN.{length, getD, set, take, drop}
 use Rattle.rf233.specs.Choice.{pick}
-use Rattle.rf233.specs.Engine.{bufferIn}
+use Rattle.rf233.specs.Record.{bufferIn}
 use Rattle.rf233.specs.declared.driver.Buffers.{Buffers}
 use Rattle.rf233.specs.declared.driver.Under.{Under}
 use Rattle.rf233.specs.declared.driver.Under.the-variants.{Idle, Register, FrameRead, FrameWrite}
@@ -19,14 +19,14 @@ poolLength = 3040
 abbrev pub startOf : ℕ → ℕ
 startOf b = b * 160
 
--- the command bytes of a transfer: byte 0 of the buffer that is sent, and of a register transfer byte 1 too
-unfoldable pub written : Transfer → List ℕ → List ℕ
-written t p =
+-- the pool with the command bytes of a transfer: byte 0 of the buffer that is sent, and of a register transfer byte 1 too
+unfoldable pub commandWritten : Transfer → List ℕ → List ℕ
+commandWritten t p =
     pick (eqb (t .kind) 0) p
     (pick (ltb (t .kind) 3) (set (set p (startOf (t .write)) (t .first)) (startOf (t .write) + 1) (t .second))
     (set p (startOf (t .write)) (t .first)))
 
--- arrived bytes copied into the beginning of buffer b
+-- the pool with arrived bytes copied into the beginning of buffer b
 abbrev pub copied : ℕ → List ℕ → List ℕ → List ℕ
 copied b xs p = take (startOf b) p ++ (xs ++ drop (startOf b + length xs) p)
 
@@ -37,13 +37,14 @@ readBuffer Register = 17
 readBuffer (FrameRead c l) = c
 readBuffer (FrameWrite c l) = 18
 
--- the lengths of the two buffers of the transfer under way, as document 01's table has them
+-- the write length of the transfer under way, as document 01's table has it
 abbrev pub writeLength : Under → Buffers → ℕ
 writeLength Idle b = 0
 writeLength Register b = 2
 writeLength (FrameRead c l) b = b .«spi_buf_len»
 writeLength (FrameWrite c l) b = b .«tx_len» + 2
 
+-- its read length
 abbrev pub readLength : Under → Buffers → ℕ
 readLength Idle b = 0
 readLength Register b = 2

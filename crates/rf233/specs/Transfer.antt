@@ -33,8 +33,8 @@ isIdle (FrameRead b l) = false
 isIdle (FrameWrite b l) = false
 
 -- the record with these own buffers in their places, this present length of spi_buf, these client's places and this transfer
-abbrev pub recorded : Bool → Bool → Bool → ℕ → Slot → Slot → Under → Buffers → Buffers
-recorded t r s l x y u b =
+abbrev pub recordWith : Bool → Bool → Bool → ℕ → Slot → Slot → Under → Buffers → Buffers
+recordWith t r s l x y u b =
     record {
       «spi_tx» = t;
       «spi_rx» = r;
@@ -47,15 +47,17 @@ recorded t r s l x y u b =
       under = u;
     }
 
--- the record with another transfer under way, transmit place or receive place
+-- the record with another transfer under way
 abbrev pub withUnder : Under → Buffers → Buffers
-withUnder u b = recorded (b .«spi_tx») (b .«spi_rx») (b .«spi_buf») (b .«spi_buf_len») (b .«tx_buf») (b .«rx_buf») u b
+withUnder u b = recordWith (b .«spi_tx») (b .«spi_rx») (b .«spi_buf») (b .«spi_buf_len») (b .«tx_buf») (b .«rx_buf») u b
 
+-- the record with another transmit place
 abbrev pub withTx : Slot → Buffers → Buffers
-withTx x b = recorded (b .«spi_tx») (b .«spi_rx») (b .«spi_buf») (b .«spi_buf_len») x (b .«rx_buf») (b .under) b
+withTx x b = recordWith (b .«spi_tx») (b .«spi_rx») (b .«spi_buf») (b .«spi_buf_len») x (b .«rx_buf») (b .under) b
 
+-- the record with another receive place
 abbrev pub withRx : Slot → Buffers → Buffers
-withRx x b = recorded (b .«spi_tx») (b .«spi_rx») (b .«spi_buf») (b .«spi_buf_len») (b .«tx_buf») x (b .under) b
+withRx x b = recordWith (b .«spi_tx») (b .«spi_rx») (b .«spi_buf») (b .«spi_buf_len») (b .«tx_buf») x (b .under) b
 
 -- nothing begins
 abbrev pub refrains : Driver → Started
@@ -71,7 +73,7 @@ registerTransfer k first second d =
     let b = d .buffers in
     pick ((isIdle (b .under) && b .«spi_tx») && b .«spi_rx»)
     (begins (transferOf k 16 17 first second 2 2)
-    (recorded false false (b .«spi_buf») (b .«spi_buf_len») (b .«tx_buf») (b .«rx_buf») Register b) d)
+    (recordWith false false (b .«spi_buf») (b .«spi_buf_len») (b .«tx_buf») (b .«rx_buf») Register b) d)
     (refrains d)
 
 -- register read: 0x80 + register, 0
@@ -82,20 +84,21 @@ registerRead reg d = registerTransfer 1 (command.registerRead (registerAddress r
 abbrev pub registerWrite : RF233Register → ℕ → Driver → Started
 registerWrite reg v d = registerTransfer 2 (command.registerWrite (registerAddress reg)) v d
 
--- frame read of n: 0x20 and whatever stands in buffer 18, 2 + n bytes; into the receive buffer, at its own length
+-- frame read of n into this place: 0x20 and whatever stands in buffer 18, 2 + n bytes; into the buffer there, at its own length
 unfoldable pub frameReadInto : Slot → ℕ → Driver → Started
 frameReadInto Empty n d = refrains d
 frameReadInto (Held c l) n d =
     let b = d .buffers in
     pick (isIdle (b .under) && b .«spi_buf»)
     (begins (transferOf 3 18 c command.frameRead n (n + 2) l)
-    (recorded (b .«spi_tx») (b .«spi_rx») false (n + 2) (b .«tx_buf») Empty (FrameRead c l) b) d)
+    (recordWith (b .«spi_tx») (b .«spi_rx») false (n + 2) (b .«tx_buf») Empty (FrameRead c l) b) d)
     (refrains d)
 
+-- frame read of n, into the receive buffer
 abbrev pub frameRead : ℕ → Driver → Started
 frameRead n d = frameReadInto (d .buffers .«rx_buf») n d
 
--- frame write of n: 0x60, n and the frame from the client's buffer, 2 + n bytes; into buffer 18, at the length that it has
+-- frame write of n from this place: 0x60, n and the frame from the buffer there, 2 + n bytes; into buffer 18, at the length that it has
 unfoldable pub frameWriteFrom : Slot → Driver → Started
 frameWriteFrom Empty d = refrains d
 frameWriteFrom (Held c l) d =
@@ -103,8 +106,9 @@ frameWriteFrom (Held c l) d =
     let n = b .«tx_len» in
     pick (isIdle (b .under) && b .«spi_buf»)
     (begins (transferOf 4 c 18 command.frameWrite n (n + 2) (b .«spi_buf_len»))
-    (recorded (b .«spi_tx») (b .«spi_rx») false (b .«spi_buf_len») Empty (b .«rx_buf») (FrameWrite c l) b) d)
+    (recordWith (b .«spi_tx») (b .«spi_rx») false (b .«spi_buf_len») Empty (b .«rx_buf») (FrameWrite c l) b) d)
     (refrains d)
 
+-- frame write of the transmit buffer
 abbrev pub frameWrite : Driver → Started
 frameWrite d = frameWriteFrom (d .buffers .«tx_buf») d

@@ -3,6 +3,7 @@ ghost use mathlib.Core.Path.{_≡_};
 ghost use mathlib.Core.List.{[], _∷_};
 ghost use Rattle.rf233.specs.Action.{actions, padded};
 
+// One thing that is asked of a pin or told to a listener.
 pub enum Action {
     // No action: what fills the list past its count.
     Nothing,
@@ -34,13 +35,21 @@ pub struct Item {
     pub action: Action,
 }
 
+// How many actions there are, and six places for them.
 pub struct Actions {
     pub count: u8,
     pub items: [Item; 6],
 }
 
 // The list of the first `count` of these; the others are `Nothing`.
-pub fn action_list(count: u8, a: Action, b: Action, c: Action, d: Action, e: Action) -> Actions
+pub(crate) fn action_list(
+    count: u8,
+    a: Action,
+    b: Action,
+    c: Action,
+    d: Action,
+    e: Action,
+) -> Actions
     ensures { λ r. ⌜ r ≡ padded count (a ∷ b ∷ c ∷ d ∷ e ∷ Action.Nothing ∷ []) ⌝ }
 {
     let n = Action::Nothing;
@@ -57,6 +66,7 @@ pub fn action_list(count: u8, a: Action, b: Action, c: Action, d: Action, e: Act
     }
 }
 
+// The empty list.
 pub fn no_actions() -> Actions
     ensures { λ r. ⌜ r ≡ actions [] ⌝ }
 {
@@ -64,7 +74,8 @@ pub fn no_actions() -> Actions
     action_list(0, n, n, n, n, n)
 }
 
-pub fn one_action(a: Action) -> Actions
+// The list of one action.
+pub(crate) fn one_action(a: Action) -> Actions
     ensures { λ r. ⌜ r ≡ actions (a ∷ []) ⌝ }
 {
     let n = Action::Nothing;

@@ -1,13 +1,15 @@
 // What a call answers: done, or one of document 01's refusals; and what a call yields beside the driver.
 use crate::action::Actions;
 use crate::action::no_actions;
+use crate::arrived::Arrived;
 use crate::driver::Driver;
 use crate::transfer::Started;
 use crate::transfer::Transfer;
 use crate::transfer::no_transfer;
 ghost use mathlib.Core.Path.{_≡_};
-ghost use Rattle.rf233.specs.Answer.{answerNo, stepOf, refused};
+ghost use Rattle.rf233.specs.Answer.{answerNo, refused, stepOf};
 
+// Document 01's answers, in the order of their numbers.
 pub enum Answer {
     Done,
     Off,
@@ -34,6 +36,7 @@ pub struct Reply {
     pub actions: Actions,
 }
 
+// The driver after a call, and what the call yields.
 pub struct Outcome {
     pub driver: Driver,
     pub reply: Reply,
@@ -63,8 +66,8 @@ pub fn answer_number(answer: Answer) -> u8
     }
 }
 
-// A step that was taken: what a starter left, and these actions.
-pub fn step_of(started: Started, actions: Actions) -> Outcome
+// A step that is done: what a starter left, and these actions.
+pub(crate) fn step_of(started: Started, actions: Actions) -> Outcome
     ensures { λ r. ⌜ r ≡ stepOf started actions ⌝ }
 {
     let driver = started.driver;
@@ -80,8 +83,8 @@ pub fn step_of(started: Started, actions: Actions) -> Outcome
 }
 
 // A refusal: no transfer, no actions, the driver as it is given.
-pub fn refuse(answer: Answer, driver: Driver) -> Outcome
-    ensures { λ r. ⌜ r ≡ refused answer driver ⌝ }
+pub(crate) fn refuse(answer: Answer, driver: Driver) -> Outcome
+    ensures { λ r. ⌜ r ≡ refused (answerNo answer) driver ⌝ }
 {
     let none = no_transfer();
     let silent = no_actions();

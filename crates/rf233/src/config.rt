@@ -1,8 +1,4 @@
 // The Rust's `RadioConfig`: start, stop, reset, commit, settings and queries.
-use crate::guard::finish;
-use crate::guard::pool_fault;
-use rf233_const::register::RF233Register;
-use rf233_const::trx_state::RF233TrxCmd;
 use crate::action::Action;
 use crate::action::action_list;
 use crate::answer::Answer;
@@ -10,33 +6,60 @@ use crate::answer::Outcome;
 use crate::answer::refuse;
 use crate::driver::Driver;
 use crate::driver::Settings;
+use crate::driver::with_flags;
+use crate::guard::finish;
+use crate::guard::pool_fault;
 use crate::power::power_fits;
-use crate::startup::Value;
-use crate::startup::value_of;
 use crate::state::InternalState;
-use crate::state::state_number;
+use crate::state::is_ready;
 use crate::step::quiet_step;
 use crate::step::state_transition_read;
 use crate::step::state_transition_write;
 use crate::step::stay;
 use crate::step::trx_command;
-use crate::step::with_flags;
+use crate::write::Value;
+use crate::write::value_of;
+use rf233_const::register::RF233Register;
+use rf233_const::trx_state::RF233TrxCmd;
 ghost use mathlib.Core.Path.{_≡_};
-ghost use Rattle.rf233.specs.Calls.{started, startCall, stopped, stopCall, committing, commitCall, resetCall, withSettings, setAddress, setAddressLong, setPan, setPower, setChannel, channelFits, isBusy};
+ghost use Rattle.rf233.specs.Config.{
+  beginCommit,
+  beginStart,
+  beginStop,
+  channelFits,
+  commitCall,
+  isBusy,
+  resetCall,
+  setAddress,
+  setAddressLong,
+  setChannel,
+  setPan,
+  setPower,
+  startCall,
+  stopCall,
+  withSettings,
+};
 
 // From SLEEP the radio is woken; on a new driver PART_NUM is read. A starter that finds a transfer under way does nothing.
 fn begin_start(d: Driver) -> Outcome
-    ensures { λ r. ⌜ r ≡ started d ⌝ }
+    ensures { λ r. ⌜ r ≡ beginStart d ⌝ }
 {
     let s = d.state;
-    if state_number(s) == 31 {
-        return state_transition_read(d, RF233Register::TRX_STATUS, InternalState::SLEEP_WAKE);
+    match s {
+        InternalState::SLEEP => state_transition_read(
+            d,
+            RF233Register::TRX_STATUS,
+            InternalState::SLEEP_WAKE,
+        ),
+        _ => {
+            let mut flags = d.flags;
+            flags.wake_pending = true;
+            state_transition_read(with_flags(d, flags), RF233Register::PART_NUM, s)
+        }
     }
-    let mut flags = d.flags;
-    flags.wake_pending = true;
-    state_transition_read(with_flags(d, flags), RF233Register::PART_NUM, s)
 }
 
+// Starts the radio, or wakes it.
 pub fn start(d: Driver, pool: &mut [u8]) -> Outcome
     ensures { λ r. ⌜ (r ≡ startCall d (now (pool .entry)) .outcome) × (now (pool .exit) ≡ startCall d (now (pool .entry)) .pool) ⌝ }
 {
@@ -44,35 +67,38 @@ pub fn start(d: Driver, pool: &mut [u8]) -> Outcome
         return refuse(Answer::Pool, d);
     }
     let s = d.state;
-    let n = state_number(s);
     let mut flags = d.flags;
     flags.sleep_pending = false;
     let e = with_flags(d, flags);
-    if (n == 0) | (n == 31) {
-        return finish(begin_start(e), pool);
+    match s {
+        InternalState::START | InternalState::SLEEP => finish(begin_start(e), pool),
+        _ => refuse(Answer::Already, e),
     }
-    refuse(Answer::Already, e)
 }
 
 // In READY and ON_PLL_WAITING the radio is turned off; elsewhere the stop waits for READY.
 fn begin_stop(d: Driver) -> Outcome
-    ensures { λ r. ⌜ r ≡ stopped d ⌝ }
+    ensures { λ r. ⌜ r ≡ beginStop d ⌝ }
 {
     let s = d.state;
-    let n = state_number(s);
     let mut flags = d.flags;
-    if (n == 27) | (n == 29) {
-        flags.radio_on = false;
-        return trx_command(
-            with_flags(d, flags),
-            RF233TrxCmd::OFF,
-            InternalState::SLEEP_TRX_OFF,
-        );
+    match s {
+        InternalState::ON_PLL_WAITING | InternalState::READY => {
+            flags.radio_on = false;
+            trx_command(
+                with_flags(d, flags),
+                RF233TrxCmd::OFF,
+                InternalState::SLEEP_TRX_OFF,
+            )
+        }
+        _ => {
+            flags.sleep_pending = true;
+            stay(with_flags(d, flags))
+        }
     }
-    flags.sleep_pending = true;
-    stay(with_flags(d, flags))
 }
 
+// Turns the radio off, at once or once it is READY.
 pub fn stop(d: Driver, pool: &mut [u8]) -> Outcome
     ensures { λ r. ⌜ (r ≡ stopCall d (now (pool .entry)) .outcome) × (now (pool .exit) ≡ stopCall d (now (pool .entry)) .pool) ⌝ }
 {
@@ -80,16 +106,15 @@ pub fn stop(d: Driver, pool: &mut [u8]) -> Outcome
         return refuse(Answer::Pool, d);
     }
     let s = d.state;
-    let n = state_number(s);
-    if (n == 30) | (n == 31) {
-        return refuse(Answer::Already, d);
+    match s {
+        InternalState::SLEEP_TRX_OFF | InternalState::SLEEP => refuse(Answer::Already, d),
+        _ => finish(begin_stop(d), pool),
     }
-    finish(begin_stop(d), pool)
 }
 
 // A commit starts in READY; elsewhere it waits. One that is pending already is left alone.
 fn begin_commit(d: Driver) -> Outcome
-    ensures { λ r. ⌜ r ≡ committing d ⌝ }
+    ensures { λ r. ⌜ r ≡ beginCommit d ⌝ }
 {
     let mut flags = d.flags;
     if flags.config_pending {
@@ -98,7 +123,7 @@ fn begin_commit(d: Driver) -> Outcome
     flags.config_pending = true;
     let e = with_flags(d, flags);
     let s = d.state;
-    if state_number(s) == 29 {
+    if is_ready(s) {
         let settings = d.settings;
         let low = value_of(settings, Value::AddrLow);
         return state_transition_write(
@@ -111,6 +136,7 @@ fn begin_commit(d: Driver) -> Outcome
     stay(e)
 }
 
+// Writes the settings to the radio, at once or once it is READY.
 pub fn config_commit(d: Driver, pool: &mut [u8]) -> Outcome
     ensures { λ r. ⌜ (r ≡ commitCall d (now (pool .entry)) .outcome) × (now (pool .exit) ≡ commitCall d (now (pool .entry)) .pool) ⌝ }
 {
@@ -120,7 +146,7 @@ pub fn config_commit(d: Driver, pool: &mut [u8]) -> Outcome
     finish(begin_commit(d), pool)
 }
 
-// The kernel has configured the SPI just before, and says whether that went well.
+// Resets the radio by its pins. The kernel has configured the SPI just before, and says whether that went well.
 pub fn reset(d: Driver, configured: bool) -> Outcome
     ensures { λ r. ⌜ r ≡ resetCall d configured ⌝ }
 {
@@ -140,12 +166,14 @@ pub fn reset(d: Driver, configured: bool) -> Outcome
     refuse(Answer::Configure, d)
 }
 
+// Nothing is to be done: the driver as it is.
 pub fn initialize(d: Driver) -> Driver
     ensures { λ r. ⌜ r ≡ d ⌝ }
 {
     d
 }
 
+// Whether the radio is on.
 pub fn is_on(d: Driver) -> bool
     ensures { λ r. ⌜ r ≡ d .flags .«radio_on» ⌝ }
 {
@@ -153,12 +181,15 @@ pub fn is_on(d: Driver) -> bool
     flags.radio_on
 }
 
+// Whether the driver is elsewhere than in READY and SLEEP.
 pub fn busy(d: Driver) -> bool
     ensures { λ r. ⌜ r ≡ isBusy d ⌝ }
 {
     let s = d.state;
-    let n = state_number(s);
-    !((n == 29) | (n == 31))
+    match s {
+        InternalState::READY | InternalState::SLEEP => false,
+        _ => true,
+    }
 }
 
 // The driver with other settings.
@@ -170,6 +201,7 @@ fn with_settings(d: Driver, settings: Settings) -> Driver
     next
 }
 
+// The short address.
 pub fn set_address(d: Driver, addr: u16) -> Driver
     ensures { λ r. ⌜ r ≡ setAddress d addr ⌝ }
 {
@@ -178,6 +210,7 @@ pub fn set_address(d: Driver, addr: u16) -> Driver
     with_settings(d, settings)
 }
 
+// The long address.
 pub fn set_address_long(d: Driver, addr: [u8; 8]) -> Driver
     ensures { λ r. ⌜ r ≡ setAddressLong d addr ⌝ }
 {
@@ -186,6 +219,7 @@ pub fn set_address_long(d: Driver, addr: [u8; 8]) -> Driver
     with_settings(d, settings)
 }
 
+// The PAN's number.
 pub fn set_pan(d: Driver, id: u16) -> Driver
     ensures { λ r. ⌜ r ≡ setPan d id ⌝ }
 {
@@ -194,6 +228,7 @@ pub fn set_pan(d: Driver, id: u16) -> Driver
     with_settings(d, settings)
 }
 
+// The transmit power in dBm, from -17 to 4.
 pub fn set_tx_power(d: Driver, power: i8) -> Outcome
     ensures { λ r. ⌜ r ≡ setPower d power ⌝ }
 {
@@ -206,12 +241,13 @@ pub fn set_tx_power(d: Driver, power: i8) -> Outcome
 }
 
 // A channel of the 2.4 GHz band.
-pub fn channel_fits(channel: u8) -> bool
+pub(crate) fn channel_fits(channel: u8) -> bool
     ensures { λ r. ⌜ r ≡ channelFits channel ⌝ }
 {
     (11 <= channel) & (channel <= 26)
 }
 
+// The channel, from 11 to 26.
 pub fn set_channel(d: Driver, channel: u8) -> Outcome
     ensures { λ r. ⌜ r ≡ setChannel d channel ⌝ }
 {
@@ -223,6 +259,7 @@ pub fn set_channel(d: Driver, channel: u8) -> Outcome
     refuse(Answer::Inval, d)
 }
 
+// The short address that is set.
 pub fn get_address(d: Driver) -> u16
     ensures { λ r. ⌜ r ≡ d .settings .addr ⌝ }
 {
@@ -230,6 +267,7 @@ pub fn get_address(d: Driver) -> u16
     settings.addr
 }
 
+// The long address that is set.
 pub fn get_address_long(d: Driver) -> [u8; 8]
     ensures { λ r. ⌜ r ≡ d .settings .«addr_long» ⌝ }
 {
@@ -237,6 +275,7 @@ pub fn get_address_long(d: Driver) -> [u8; 8]
     settings.addr_long
 }
 
+// The PAN's number that is set.
 pub fn get_pan(d: Driver) -> u16
     ensures { λ r. ⌜ r ≡ d .settings .pan ⌝ }
 {
@@ -244,6 +283,7 @@ pub fn get_pan(d: Driver) -> u16
     settings.pan
 }
 
+// The transmit power that is set.
 pub fn get_tx_power(d: Driver) -> i8
     ensures { λ r. ⌜ r ≡ d .settings .«tx_power» ⌝ }
 {
@@ -251,6 +291,7 @@ pub fn get_tx_power(d: Driver) -> i8
     settings.tx_power
 }
 
+// The channel that is set.
 pub fn get_channel(d: Driver) -> u8
     ensures { λ r. ⌜ r ≡ d .settings .channel ⌝ }
 {

@@ -1,8 +1,8 @@
 // A new driver.
-use crate::config::channel_fits;
 use crate::answer::Answer;
 use crate::answer::Outcome;
 use crate::answer::refuse;
+use crate::config::channel_fits;
 use crate::driver::Buffers;
 use crate::driver::Clients;
 use crate::driver::Driver;
@@ -14,7 +14,7 @@ use crate::power::setting_to_power;
 use crate::state::InternalState;
 use crate::step::stay;
 ghost use mathlib.Core.Path.{_≡_};
-ghost use Rattle.rf233.specs.New.{newDriver, newCall};
+ghost use Rattle.rf233.specs.Create.{newCall, newDriver};
 
 // The driver of a length of spi_buf and a channel.
 fn new_driver(length: u16, channel: u8) -> Driver
@@ -62,6 +62,7 @@ fn new_driver(length: u16, channel: u8) -> Driver
     }
 }
 
+// A driver that was never started. A length or a channel that is refused yields that of 129 and channel 26.
 pub fn new(length: usize, channel: u8) -> Outcome
     ensures { λ r. ⌜ r ≡ newCall length channel ⌝ }
 {

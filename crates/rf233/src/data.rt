@@ -1,30 +1,30 @@
 // The Rust's `RadioData`: a frame to send, and a buffer to receive into. A client names its buffer by its place in the pool; numbers
 // are cut to a byte only once they are known to fit one.
-use crate::guard::finish;
-use crate::guard::pool_fault;
-use crate::pool::put_length;
-use crate::record::receiving_slot;
-use crate::record::record_has;
-use crate::record::sending_slot;
-use rf233_const::register::RF233Register;
 use crate::answer::Answer;
 use crate::answer::Outcome;
 use crate::answer::refuse;
 use crate::driver::Driver;
 use crate::driver::Slot;
+use crate::driver::with_buffers;
+use crate::driver::with_flags;
 use crate::driver::with_rx_buf;
 use crate::driver::with_tx_buf;
-use crate::interrupt::is_held;
+use crate::guard::finish;
+use crate::guard::pool_fault;
+use crate::pool::put_length;
+use crate::record::is_held;
+use crate::record::record_has;
+use crate::record::rx_under_way;
+use crate::record::tx_under_way;
 use crate::state::InternalState;
-use crate::state::state_number;
+use crate::state::is_ready;
 use crate::step::state_transition_read;
 use crate::step::stay;
-use crate::step::with_buffers;
-use crate::step::with_flags;
+use rf233_const::register::RF233Register;
 ghost use mathlib.Core.Path.{_≡_};
 ghost use Prim.Native.Nat.{_+_, _≤_};
 ghost use lib.Dec.{leb};
-ghost use Rattle.rf233.specs.Calls.{handleBad, txBusy, rxFull, transmitting, transmitCall, receiveBufferCall};
+ghost use Rattle.rf233.specs.Data.{beginTransmit, handleBad, receiveBufferCall, rxFull, transmitCall, txBusy};
 
 // Refusal 7: a buffer that is no client's, or longer than a buffer of the pool.
 fn handle_bad(buffer: usize, length: usize) -> bool
@@ -42,7 +42,7 @@ fn tx_busy(d: Driver) -> bool
     let under = b.under;
     let flags = d.flags;
     let held = is_held(tx_buf);
-    let sent = is_held(sending_slot(under));
+    let sent = is_held(tx_under_way(under));
     held | (sent | flags.transmitting)
 }
 
@@ -54,7 +54,7 @@ fn rx_full(d: Driver) -> bool
     let rx_buf = b.rx_buf;
     let under = b.under;
     let held = is_held(rx_buf);
-    let received = is_held(receiving_slot(under));
+    let received = is_held(rx_under_way(under));
     held | received
 }
 
@@ -71,7 +71,7 @@ fn size_bad(length: usize, frame_len: usize) -> bool
 // The buffer is held and the driver is transmitting; in READY, while nothing is being received, the send begins at once.
 fn begin_transmit(d: Driver, buffer: u8, length: u8, frame_len: u8) -> Outcome
     requires { ⌜ «frame_len» ≤ 125 ⌝ }
-    ensures { λ r. ⌜ r ≡ transmitting d buffer length «frame_len» ⌝ }
+    ensures { λ r. ⌜ r ≡ beginTransmit d buffer length «frame_len» ⌝ }
 {
     let mut lent = with_tx_buf(d.buffers, Slot::Held(buffer, length));
     lent.tx_len = frame_len + 2;
@@ -79,7 +79,7 @@ fn begin_transmit(d: Driver, buffer: u8, length: u8, frame_len: u8) -> Outcome
     flags.transmitting = true;
     let e = with_flags(with_buffers(d, lent), flags);
     let s = d.state;
-    let ready = state_number(s) == 29;
+    let ready = is_ready(s);
     if !flags.receiving & ready {
         return state_transition_read(
             e,
@@ -90,6 +90,7 @@ fn begin_transmit(d: Driver, buffer: u8, length: u8, frame_len: u8) -> Outcome
     stay(e)
 }
 
+// A frame of `frame_len` bytes in a buffer of `length` is to be sent.
 pub fn transmit(
     d: Driver,
     buffer: usize,
@@ -97,7 +98,8 @@ pub fn transmit(
     frame_len: usize,
     pool: &mut [u8],
 ) -> Outcome
-    ensures { λ r. ⌜ (r ≡ transmitCall d buffer length «frame_len» (now (pool .entry)) .outcome) × (now (pool .exit) ≡ transmitCall d buffer length «frame_len» (now (pool .entry)) .pool) ⌝ }
+    ensures { λ r. ⌜ (r ≡ transmitCall d buffer length «frame_len» (now (pool .entry)) .outcome)
+        × (now (pool .exit) ≡ transmitCall d buffer length «frame_len» (now (pool .entry)) .pool) ⌝ }
 {
     if pool_fault(d, pool.len()) {
         return refuse(Answer::Pool, d);
@@ -127,6 +129,7 @@ pub fn transmit(
     finish(begin_transmit(d, place, length as u8, n), pool)
 }
 
+// A buffer of `length` to receive into.
 pub fn set_receive_buffer(d: Driver, buffer: usize, length: usize) -> Outcome
     ensures { λ r. ⌜ r ≡ receiveBufferCall d buffer length ⌝ }
 {

@@ -1,8 +1,8 @@
 // The driver as a value: what the Rust keeps in cells, and where each buffer is.
 use crate::state::InternalState;
 ghost use mathlib.Core.Path.{_≡_};
-ghost use Rattle.rf233.specs.Driver.{inState};
-ghost use Rattle.rf233.specs.Transfer.{withUnder, withTx, withRx};
+ghost use Rattle.rf233.specs.Driver.{withBuffers, withFlags, withState};
+ghost use Rattle.rf233.specs.Transfer.{withRx, withTx, withUnder};
 
 // The Rust's cells of a bool, under its names. Its `spi_busy` is here the record of the transfer under way.
 pub struct Flags {
@@ -63,6 +63,7 @@ pub struct Buffers {
     pub under: Under,
 }
 
+// The driver: its state, its flags, its listeners, its settings, its record of the buffers.
 pub struct Driver {
     pub state: InternalState,
     pub flags: Flags,
@@ -72,16 +73,34 @@ pub struct Driver {
 }
 
 // The driver in another state.
-pub fn with_state(d: Driver, state: InternalState) -> Driver
-    ensures { λ r. ⌜ r ≡ inState state d ⌝ }
+pub(crate) fn with_state(d: Driver, state: InternalState) -> Driver
+    ensures { λ r. ⌜ r ≡ withState state d ⌝ }
 {
     let mut next = d;
     next.state = state;
     next
 }
 
+// The driver with other flags.
+pub(crate) fn with_flags(d: Driver, flags: Flags) -> Driver
+    ensures { λ r. ⌜ r ≡ withFlags flags d ⌝ }
+{
+    let mut next = d;
+    next.flags = flags;
+    next
+}
+
+// The driver with another record of its buffers.
+pub(crate) fn with_buffers(d: Driver, buffers: Buffers) -> Driver
+    ensures { λ r. ⌜ r ≡ withBuffers buffers d ⌝ }
+{
+    let mut next = d;
+    next.buffers = buffers;
+    next
+}
+
 // The record with another transfer under way.
-pub fn with_under(b: Buffers, under: Under) -> Buffers
+pub(crate) fn with_under(b: Buffers, under: Under) -> Buffers
     ensures { λ r. ⌜ r ≡ withUnder under b ⌝ }
 {
     let mut next = b;
@@ -90,7 +109,7 @@ pub fn with_under(b: Buffers, under: Under) -> Buffers
 }
 
 // The record with another transmit place.
-pub fn with_tx_buf(b: Buffers, slot: Slot) -> Buffers
+pub(crate) fn with_tx_buf(b: Buffers, slot: Slot) -> Buffers
     ensures { λ r. ⌜ r ≡ withTx slot b ⌝ }
 {
     let mut next = b;
@@ -99,7 +118,7 @@ pub fn with_tx_buf(b: Buffers, slot: Slot) -> Buffers
 }
 
 // The record with another receive place.
-pub fn with_rx_buf(b: Buffers, slot: Slot) -> Buffers
+pub(crate) fn with_rx_buf(b: Buffers, slot: Slot) -> Buffers
     ensures { λ r. ⌜ r ≡ withRx slot b ⌝ }
 {
     let mut next = b;

@@ -1,13 +1,13 @@
 // Refusal 12, asked before anything else, and the end of a step: its command bytes are written into the pool.
-use crate::pool::write_command;
-use crate::record::is_described;
 use crate::answer::Outcome;
+use crate::described::is_described;
 use crate::driver::Driver;
+use crate::pool::write_command;
 ghost use mathlib.Core.Path.{_≡_};
-ghost use mathlib.Core.Bool.{not, _||_};
+ghost use mathlib.Core.Bool.{_||_, not};
 ghost use lib.Dec.{eqb};
-ghost use Rattle.rf233.specs.Pool.{written};
-ghost use Rattle.rf233.specs.Record.{described};
+ghost use Rattle.rf233.specs.Described.{described};
+ghost use Rattle.rf233.specs.Pool.{commandWritten};
 
 // The pool is not 3,040 bytes long, or the driver value is one that refusal 12 describes.
 pub fn pool_fault(d: Driver, length: usize) -> bool
@@ -20,7 +20,7 @@ pub fn pool_fault(d: Driver, length: usize) -> bool
 
 // The step's command bytes are written.
 pub fn finish(out: Outcome, pool: &mut [u8]) -> Outcome
-    ensures { λ r. ⌜ (r ≡ out) × (now (pool .exit) ≡ written (out .reply .transfer) (now (pool .entry))) ⌝ }
+    ensures { λ r. ⌜ (r ≡ out) × (now (pool .exit) ≡ commandWritten (out .reply .transfer) (now (pool .entry))) ⌝ }
 {
     let reply = out.reply;
     let transfer = reply.transfer;

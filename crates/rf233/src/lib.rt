@@ -1,4 +1,5 @@
-// The AT86RF233 driver. The public modules hold what a client calls, the types that it passes and gets, and their numbers. Behind them stand
+// The AT86RF233 driver. The public modules hold what a client calls, the types that it passes and gets, and their numbers. Behind them
+// stand
 // the states' cases, a completion's phases, the transfer starters, refusal 12 and the pool.
 pub mod action;
 pub mod answer;
@@ -9,8 +10,8 @@ mod completion;
 pub mod config;
 pub mod create;
 pub mod data;
+mod described;
 pub mod driver;
-pub mod fired;
 mod guard;
 mod interrupt;
 pub mod kernel;
@@ -22,9 +23,9 @@ mod ready;
 mod receive;
 mod record;
 mod sleep;
-mod start;
 mod startup;
 pub mod state;
 mod step;
 pub mod transfer;
 mod transmit;
+mod write;

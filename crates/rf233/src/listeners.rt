@@ -1,9 +1,10 @@
 // Listeners made present or absent: of `RadioConfig` the power and config listeners, of `RadioData` the other two.
 use crate::driver::Driver;
 ghost use mathlib.Core.Path.{_≡_};
-ghost use Rattle.rf233.specs.Calls.{setClient};
-ghost use Rattle.rf233.specs.Driver.Client.{txClient, rxClient, cfgClient, powerClient};
+ghost use Rattle.rf233.specs.Driver.Client.{cfgClient, powerClient, rxClient, txClient};
+ghost use Rattle.rf233.specs.Listeners.{setClient};
 
+// Of the end of a commit.
 pub fn set_config_client(d: Driver, present: bool) -> Driver
     ensures { λ r. ⌜ r ≡ setClient cfgClient d present ⌝ }
 {
@@ -14,6 +15,7 @@ pub fn set_config_client(d: Driver, present: bool) -> Driver
     next
 }
 
+// Of the radio turned on or off.
 pub fn set_power_client(d: Driver, present: bool) -> Driver
     ensures { λ r. ⌜ r ≡ setClient powerClient d present ⌝ }
 {
@@ -24,6 +26,7 @@ pub fn set_power_client(d: Driver, present: bool) -> Driver
     next
 }
 
+// Of a sent frame.
 pub fn set_transmit_client(d: Driver, present: bool) -> Driver
     ensures { λ r. ⌜ r ≡ setClient txClient d present ⌝ }
 {
@@ -34,6 +37,7 @@ pub fn set_transmit_client(d: Driver, present: bool) -> Driver
     next
 }
 
+// Of a received frame.
 pub fn set_receive_client(d: Driver, present: bool) -> Driver
     ensures { λ r. ⌜ r ≡ setClient rxClient d present ⌝ }
 {

@@ -1,8 +1,8 @@
 // Where the driver's record has a buffer.
+use crate::driver::Buffers;
 use crate::record::own_has;
 use crate::record::slot_has;
 use crate::record::under_has;
-use crate::driver::Buffers;
 ghost use mathlib.Core.Path.{_≡_};
 ghost use Rattle.rf233.specs.Place.{placeOf};
 

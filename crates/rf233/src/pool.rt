@@ -1,12 +1,12 @@
 // The lent pool of 19 buffers of 160 bytes: command bytes are written into it, arrived bytes are copied into it, one byte is read.
 use crate::driver::Buffers;
 use crate::driver::Under;
-use crate::step::buffer_in;
+use crate::record::buffer_in;
 use crate::transfer::Transfer;
 ghost use mathlib.Core.Path.{_≡_};
-ghost use Prim.Native.Nat.{_+_, _≤_, _*_};
-ghost use lib.ListN.{length, getD, set};
-ghost use Rattle.rf233.specs.Pool.{written, copied, readBuffer, writeLength, readLength, shorter, lengthByte};
+ghost use Prim.Native.Nat.{_*_, _+_, _≤_};
+ghost use lib.ListN.{getD, length, set};
+ghost use Rattle.rf233.specs.Pool.{commandWritten, copied, lengthByte, readBuffer, readLength, shorter, writeLength};
 
 // Writes one byte, where the pool reaches that far.
 fn put(pool: &mut [u8], at: usize, byte: u8)
@@ -24,16 +24,16 @@ fn byte_at(pool: &[u8], at: usize) -> u8
     if at < pool.len() { pool[at] } else { 0 }
 }
 
-// Byte 1 of a client's buffer.
+// Writes byte 1 of a client's buffer.
 pub fn put_length(pool: &mut [u8], buffer: u8, byte: u8)
     ensures { λ r. ⌜ now (pool .exit) ≡ set (now (pool .entry)) (buffer * 160 + 1) byte ⌝ }
 {
     put(pool, buffer as usize * 160 + 1, byte);
 }
 
-// The command bytes of a transfer.
+// Writes the command bytes of a transfer.
 pub fn write_command(pool: &mut [u8], t: Transfer)
-    ensures { λ r. ⌜ now (pool .exit) ≡ written t (now (pool .entry)) ⌝ }
+    ensures { λ r. ⌜ now (pool .exit) ≡ commandWritten t (now (pool .entry)) ⌝ }
 {
     if t.kind == 0 {
         return;
@@ -45,7 +45,7 @@ pub fn write_command(pool: &mut [u8], t: Transfer)
     }
 }
 
-// The arrived bytes, copied into the beginning of a buffer's part of the pool.
+// Copies the arrived bytes into the beginning of a buffer's part of the pool.
 pub fn copy_arrived(pool: &mut [u8], buffer: u8, arrived: &[u8])
     requires { ⌜ (length (now arrived) ≤ 160) × (buffer * 160 + 160 ≤ length (now pool)) ⌝ }
     ensures { λ r. ⌜ now (pool .exit) ≡ copied buffer (now (arrived .entry)) (now (pool .entry)) ⌝ }
@@ -68,6 +68,7 @@ pub fn read_buffer(b: Buffers) -> u8
     }
 }
 
+// The write length of the transfer under way.
 fn write_length(b: Buffers) -> u16
     ensures { λ r. ⌜ r ≡ writeLength (b .under) b ⌝ }
 {
@@ -80,6 +81,7 @@ fn write_length(b: Buffers) -> u16
     }
 }
 
+// Its read length.
 fn read_length(b: Buffers) -> u16
     ensures { λ r. ⌜ r ≡ readLength (b .under) b ⌝ }
 {

@@ -1,7 +1,8 @@
 // Transmit power: what each setting of PHY_TX_PWR radiates, in dBm, and the setting for a wish.
 ghost use mathlib.Core.Path.{_≡_};
-ghost use Rattle.rf233.specs.Power.{settingToPower, powerToSetting, powerFits};
+ghost use Rattle.rf233.specs.Power.{powerFits, powerToSetting, settingToPower};
 
+// What a setting radiates.
 pub fn setting_to_power(setting: u8) -> i8
     ensures { λ r. ⌜ r ≡ settingToPower setting ⌝ }
 {
@@ -23,6 +24,7 @@ pub fn setting_to_power(setting: u8) -> i8
     }
 }
 
+// The setting for a wish.
 pub fn power_to_setting(power: i8) -> u8
     ensures { λ r. ⌜ r ≡ powerToSetting power ⌝ }
 {

@@ -5,23 +5,24 @@ use crate::action::one_action;
 use crate::answer::Outcome;
 use crate::arrived::Arrived;
 use crate::driver::Driver;
+use crate::driver::with_flags;
 use crate::state::InternalState;
 use crate::step::quiet_step;
 use crate::step::state_transition_write;
 use crate::step::stay;
-use crate::step::with_flags;
 use rf233_const::register::RF233Register;
 use rf233_const::trx_state::RF233TrxCmd;
 use rf233_const::trx_state::trx_cmd_number;
 ghost use mathlib.Core.Path.{_≡_};
 ghost use Rattle.rf233.specs.Action.{actions};
 ghost use Rattle.rf233.specs.Answer.{quiet};
-ghost use Rattle.rf233.specs.Engine.{own, powerTold};
+ghost use Rattle.rf233.specs.Case.{ownCase};
+ghost use Rattle.rf233.specs.Ready.{powerTold};
 ghost use Rattle.rf233.specs.State.{stateNo};
 
 pub fn ready_case(d: Driver, a: Arrived) -> Outcome
     requires { ⌜ stateNo (d .state) ≡ 29 ⌝ }
-    ensures { λ r. ⌜ r ≡ own a d ⌝ }
+    ensures { λ r. ⌜ r ≡ ownCase a d ⌝ }
 {
     let mut flags = d.flags;
     if flags.sleep_pending {

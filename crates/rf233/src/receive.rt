@@ -7,16 +7,16 @@ use crate::answer::step_of;
 use crate::arrived::Arrived;
 use crate::driver::Driver;
 use crate::driver::Slot;
+use crate::driver::with_buffers;
+use crate::driver::with_flags;
 use crate::driver::with_rx_buf;
 use crate::driver::with_state;
+use crate::record::buffer_in;
 use crate::state::InternalState;
-use crate::step::buffer_in;
 use crate::step::state_transition_read;
 use crate::step::stay;
 use crate::step::trx_command;
 use crate::step::with_actions;
-use crate::step::with_buffers;
-use crate::step::with_flags;
 use crate::transfer::frame_read;
 use rf233_const::flags::crc_valid;
 use rf233_const::register::RF233Register;
@@ -24,13 +24,14 @@ use rf233_const::trx_state::RF233TrxCmd;
 ghost use mathlib.Core.Path.{_≡_};
 ghost use mathlib.Core.Bool.{true};
 ghost use mathlib.Core.List.{[], _∷_};
+ghost use Rattle.rf233.specs.Case.{ownCase};
 ghost use Rattle.rf233.specs.Choice.{oneOf};
-ghost use Rattle.rf233.specs.Engine.{own, received, onwardRead};
+ghost use Rattle.rf233.specs.Receive.{onwardRead, received};
 ghost use Rattle.rf233.specs.State.{stateNo};
 
 pub fn receive_case(d: Driver, a: Arrived) -> Outcome
     requires { ⌜ oneOf (60 ∷ 62 ∷ 64 ∷ 66 ∷ 67 ∷ 68 ∷ []) (stateNo (d .state)) ≡ true ⌝ }
-    ensures { λ r. ⌜ r ≡ own a d ⌝ }
+    ensures { λ r. ⌜ r ≡ ownCase a d ⌝ }
 {
     let s = d.state;
     match s {
@@ -51,7 +52,7 @@ pub fn receive_case(d: Driver, a: Arrived) -> Outcome
 // Reception is off: the interrupt that told of the frame's end is read.
 fn rx_turning_off(d: Driver, a: Arrived) -> Outcome
     requires { ⌜ stateNo (d .state) ≡ 60 ⌝ }
-    ensures { λ r. ⌜ r ≡ own a d ⌝ }
+    ensures { λ r. ⌜ r ≡ ownCase a d ⌝ }
 {
     let mut flags = d.flags;
     flags.interrupt_handling = true;
@@ -65,7 +66,7 @@ fn rx_turning_off(d: Driver, a: Arrived) -> Outcome
 // The frame's length is read first: a frame read of no bytes brings the status and the length.
 fn rx_start_reading(d: Driver, a: Arrived) -> Outcome
     requires { ⌜ stateNo (d .state) ≡ 62 ⌝ }
-    ensures { λ r. ⌜ r ≡ own a d ⌝ }
+    ensures { λ r. ⌜ r ≡ ownCase a d ⌝ }
 {
     step_of(
         frame_read(with_state(d, InternalState::RX_READING_FRAME_LEN), 0),
@@ -76,7 +77,7 @@ fn rx_start_reading(d: Driver, a: Arrived) -> Outcome
 // A length from MIN_FRAME_SIZE to MAX_FRAME_SIZE is read out; any other is left.
 fn rx_reading_frame_len_done(d: Driver, a: Arrived) -> Outcome
     requires { ⌜ stateNo (d .state) ≡ 64 ⌝ }
-    ensures { λ r. ⌜ r ≡ own a d ⌝ }
+    ensures { λ r. ⌜ r ≡ ownCase a d ⌝ }
 {
     let frame_len = a.result;
     match frame_len {
@@ -91,7 +92,7 @@ fn rx_reading_frame_len_done(d: Driver, a: Arrived) -> Outcome
 // Whether the frame's check was valid is kept, and the radio is turned back on.
 fn rx_reading_frame_fcs_done(d: Driver, a: Arrived) -> Outcome
     requires { ⌜ stateNo (d .state) ≡ 67 ⌝ }
-    ensures { λ r. ⌜ r ≡ own a d ⌝ }
+    ensures { λ r. ⌜ r ≡ ownCase a d ⌝ }
 {
     let valid = crc_valid(a.result);
     let mut flags = d.flags;
@@ -106,7 +107,7 @@ fn rx_reading_frame_fcs_done(d: Driver, a: Arrived) -> Outcome
 // The frame is handed to the listener; with none its buffer stays held. A waiting stop is withdrawn.
 fn rx_enabling_reception(d: Driver, a: Arrived) -> Outcome
     requires { ⌜ stateNo (d .state) ≡ 68 ⌝ }
-    ensures { λ r. ⌜ r ≡ own a d ⌝ }
+    ensures { λ r. ⌜ r ≡ ownCase a d ⌝ }
 {
     let clients = d.clients;
     let mut flags = d.flags;

@@ -17,13 +17,13 @@ use rf233_const::trx_state::RF233TrxCmd;
 ghost use mathlib.Core.Path.{_≡_};
 ghost use mathlib.Core.Bool.{true};
 ghost use mathlib.Core.List.{[], _∷_};
+ghost use Rattle.rf233.specs.Case.{ownCase};
 ghost use Rattle.rf233.specs.Choice.{oneOf};
-ghost use Rattle.rf233.specs.Engine.{own};
 ghost use Rattle.rf233.specs.State.{stateNo};
 
 pub fn sleep_case(d: Driver, a: Arrived) -> Outcome
     requires { ⌜ oneOf (30 ∷ 32 ∷ []) (stateNo (d .state)) ≡ true ⌝ }
-    ensures { λ r. ⌜ r ≡ own a d ⌝ }
+    ensures { λ r. ⌜ r ≡ ownCase a d ⌝ }
 {
     let s = d.state;
     match s {
@@ -36,7 +36,7 @@ pub fn sleep_case(d: Driver, a: Arrived) -> Outcome
 // The sleep pin puts the radio to sleep, unless a start waits: then it is woken at once.
 fn sleep_trx_off(d: Driver, a: Arrived) -> Outcome
     requires { ⌜ stateNo (d .state) ≡ 30 ⌝ }
-    ensures { λ r. ⌜ r ≡ own a d ⌝ }
+    ensures { λ r. ⌜ r ≡ ownCase a d ⌝ }
 {
     let flags = d.flags;
     let clients = d.clients;
@@ -66,7 +66,7 @@ fn sleep_trx_off(d: Driver, a: Arrived) -> Outcome
 // The radio is out of sleep, and goes straight on to receive.
 fn sleep_wake(d: Driver, a: Arrived) -> Outcome
     requires { ⌜ stateNo (d .state) ≡ 32 ⌝ }
-    ensures { λ r. ⌜ r ≡ own a d ⌝ }
+    ensures { λ r. ⌜ r ≡ ownCase a d ⌝ }
 {
     let n = Action::Nothing;
     let woken = action_list(2, Action::SleepClear, Action::IrqEnableInterrupts, n, n, n);

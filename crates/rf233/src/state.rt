@@ -1,7 +1,9 @@
 // The driver's internal states, in the Rust's order, and document 01's number of each.
 ghost use mathlib.Core.Path.{_≡_};
+ghost use lib.Dec.{eqb};
 ghost use Rattle.rf233.specs.State.{stateNo};
 
+// The Rust's states.
 pub enum InternalState {
     START,
     START_PART_READ,
@@ -74,7 +76,17 @@ pub enum InternalState {
     RX_ENABLING_RECEPTION,
 }
 
-// Document 01's number of a state.
+// The Rust's `state == InternalState::READY`.
+pub(crate) fn is_ready(state: InternalState) -> bool
+    ensures { λ r. ⌜ r ≡ eqb (stateNo state) 29 ⌝ }
+{
+    match state {
+        InternalState::READY => true,
+        _ => false,
+    }
+}
+
+// Document 01's number of a state: for the trace, for programs, and for the row of a table.
 pub fn state_number(state: InternalState) -> u8
     ensures { λ r. ⌜ r ≡ stateNo state ⌝ }
 {

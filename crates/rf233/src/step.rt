@@ -4,10 +4,7 @@ use crate::action::no_actions;
 use crate::answer::Outcome;
 use crate::answer::Reply;
 use crate::answer::step_of;
-use crate::driver::Buffers;
 use crate::driver::Driver;
-use crate::driver::Flags;
-use crate::driver::Slot;
 use crate::driver::Under;
 use crate::driver::with_state;
 use crate::driver::with_under;
@@ -26,27 +23,9 @@ ghost use mathlib.Core.List.{[]};
 ghost use Rattle.rf233_const.specs.TrxState.{commandValue};
 ghost use Rattle.rf233.specs.Action.{actions};
 ghost use Rattle.rf233.specs.Answer.{quiet, stepOf};
-ghost use Rattle.rf233.specs.Driver.{inState, withFlags, withBuffers};
-ghost use Rattle.rf233.specs.Engine.{transitionRead, transitionWrite, showing, bufferIn};
+ghost use Rattle.rf233.specs.Driver.{withState};
+ghost use Rattle.rf233.specs.Step.{transitionRead, transitionWrite, withActions};
 ghost use Rattle.rf233.specs.Transfer.{registerTransfer};
-
-// The driver with other flags.
-pub fn with_flags(d: Driver, flags: Flags) -> Driver
-    ensures { λ r. ⌜ r ≡ withFlags flags d ⌝ }
-{
-    let mut next = d;
-    next.flags = flags;
-    next
-}
-
-// The driver with another record of its buffers.
-pub fn with_buffers(d: Driver, buffers: Buffers) -> Driver
-    ensures { λ r. ⌜ r ≡ withBuffers buffers d ⌝ }
-{
-    let mut next = d;
-    next.buffers = buffers;
-    next
-}
 
 // A step that starts nothing, with these actions.
 pub fn quiet_step(d: Driver, actions: Actions) -> Outcome
@@ -65,7 +44,7 @@ pub fn stay(d: Driver) -> Outcome
 // A register transfer with these two bytes, unless one is under way or a register buffer is missing; and the next state. One function
 // makes the whole outcome: the driver is copied once.
 fn register_step(d: Driver, kind: u8, first: u8, second: u8, state: InternalState) -> Outcome
-    ensures { λ r. ⌜ r ≡ stepOf (registerTransfer kind first second (inState state d)) (actions []) ⌝ }
+    ensures { λ r. ⌜ r ≡ stepOf (registerTransfer kind first second (withState state d)) (actions []) ⌝ }
 {
     let b = d.buffers;
     let free = is_idle(b) & b.spi_tx & b.spi_rx;
@@ -74,18 +53,20 @@ fn register_step(d: Driver, kind: u8, first: u8, second: u8, state: InternalStat
         let mut taken = with_under(b, Under::Register);
         taken.spi_tx = false;
         taken.spi_rx = false;
-        let begun = transfer_of(kind, 16, 17, first, second, 2, 2);
-        return step_of(begin(next, taken, begun), no_actions());
+        let transfer = transfer_of(kind, 16, 17, first, second, 2, 2);
+        return step_of(begin(next, taken, transfer), no_actions());
     }
     stay(next)
 }
 
+// A register read, and the next state.
 pub fn state_transition_read(d: Driver, reg: RF233Register, state: InternalState) -> Outcome
     ensures { λ r. ⌜ r ≡ transitionRead reg state d ⌝ }
 {
     register_step(d, 1, register_read_command(reg), 0, state)
 }
 
+// A register write, and the next state.
 pub fn state_transition_write(
     d: Driver,
     reg: RF233Register,
@@ -104,19 +85,9 @@ pub fn trx_command(d: Driver, command: RF233TrxCmd, state: InternalState) -> Out
     state_transition_write(d, RF233Register::TRX_STATE, trx_cmd_number(command), state)
 }
 
-// The buffer in a place; an empty place is never asked.
-pub fn buffer_in(slot: Slot) -> u8
-    ensures { λ r. ⌜ r ≡ bufferIn slot ⌝ }
-{
-    match slot {
-        Slot::Empty => 0,
-        Slot::Held(buffer, _) => buffer,
-    }
-}
-
 // The step with these actions.
 pub fn with_actions(o: Outcome, actions: Actions) -> Outcome
-    ensures { λ r. ⌜ r ≡ showing actions o ⌝ }
+    ensures { λ r. ⌜ r ≡ withActions actions o ⌝ }
 {
     let driver = o.driver;
     let reply = o.reply;

@@ -9,7 +9,17 @@ use crate::driver::with_under;
 use rf233_const::command::frame_read_command;
 use rf233_const::command::frame_write_command;
 ghost use mathlib.Core.Path.{_≡_};
-ghost use Rattle.rf233.specs.Transfer.{noTransfer, isIdle, transferOf, refrains, begins, frameRead, frameReadInto, frameWrite, frameWriteFrom};
+ghost use Rattle.rf233.specs.Transfer.{
+  begins,
+  frameRead,
+  frameReadInto,
+  frameWrite,
+  frameWriteFrom,
+  isIdle,
+  noTransfer,
+  refrains,
+  transferOf,
+};
 
 // A transfer as it goes out: document 01's kind, 1 to 4, or 0 for none; the buffer sent from and the buffer read into; the first byte
 // sent; the second byte of a register transfer, or a frame transfer's n; the lengths of the two buffers.
@@ -30,6 +40,7 @@ pub struct Started {
     pub transfer: Transfer,
 }
 
+// No transfer.
 pub fn no_transfer() -> Transfer
     ensures { λ r. ⌜ r ≡ noTransfer ⌝ }
 {
@@ -57,7 +68,8 @@ pub fn is_idle(b: Buffers) -> bool
     }
 }
 
-pub fn transfer_of(
+// A transfer of these parts.
+pub(crate) fn transfer_of(
     kind: u8,
     write: u8,
     read: u8,
@@ -80,20 +92,20 @@ pub fn transfer_of(
 }
 
 // The transfer begins, and the record of the buffers is then this.
-pub fn begin(d: Driver, buffers: Buffers, begun: Transfer) -> Started
-    ensures { λ r. ⌜ r ≡ begins begun buffers d ⌝ }
+pub(crate) fn begin(d: Driver, buffers: Buffers, transfer: Transfer) -> Started
+    ensures { λ r. ⌜ r ≡ begins transfer buffers d ⌝ }
 {
     let mut next = d;
     next.buffers = buffers;
     Started {
         began: true,
         driver: next,
-        transfer: begun,
+        transfer: transfer,
     }
 }
 
 // Nothing begins.
-pub fn refrain(d: Driver) -> Started
+pub(crate) fn refrain(d: Driver) -> Started
     ensures { λ r. ⌜ r ≡ refrains d ⌝ }
 {
     let none = no_transfer();
@@ -105,7 +117,7 @@ pub fn refrain(d: Driver) -> Started
 }
 
 // A frame read of n bytes into the receive buffer.
-pub fn frame_read(d: Driver, n: u8) -> Started
+pub(crate) fn frame_read(d: Driver, n: u8) -> Started
     ensures { λ r. ⌜ r ≡ frameRead n d ⌝ }
 {
     let b = d.buffers;
@@ -116,6 +128,7 @@ pub fn frame_read(d: Driver, n: u8) -> Started
     }
 }
 
+// A frame read of n bytes into this buffer, unless a transfer is under way or buffer 18 is missing.
 fn frame_read_into(d: Driver, buffer: u8, length: u8, n: u8) -> Started
     ensures { λ r. ⌜ r ≡ frameReadInto (Slot.Held buffer length) n d ⌝ }
 {
@@ -127,7 +140,7 @@ fn frame_read_into(d: Driver, buffer: u8, length: u8, n: u8) -> Started
         let mut taken = with_rx_buf(going, Slot::Empty);
         taken.spi_buf = false;
         taken.spi_buf_len = write_len;
-        let begun = transfer_of(
+        let transfer = transfer_of(
             3,
             18,
             buffer,
@@ -136,13 +149,13 @@ fn frame_read_into(d: Driver, buffer: u8, length: u8, n: u8) -> Started
             write_len,
             length as u16,
         );
-        return begin(d, taken, begun);
+        return begin(d, taken, transfer);
     }
     refrain(d)
 }
 
 // A frame write of the transmit buffer, whose n `transmit` left in the driver.
-pub fn frame_write(d: Driver) -> Started
+pub(crate) fn frame_write(d: Driver) -> Started
     ensures { λ r. ⌜ r ≡ frameWrite d ⌝ }
 {
     let b = d.buffers;
@@ -153,6 +166,7 @@ pub fn frame_write(d: Driver) -> Started
     }
 }
 
+// A frame write from this buffer, unless a transfer is under way or buffer 18 is missing.
 fn frame_write_from(d: Driver, buffer: u8, length: u8) -> Started
     ensures { λ r. ⌜ r ≡ frameWriteFrom (Slot.Held buffer length) d ⌝ }
 {
@@ -163,7 +177,7 @@ fn frame_write_from(d: Driver, buffer: u8, length: u8) -> Started
         let going = with_under(b, Under::FrameWrite(buffer, length));
         let mut taken = with_tx_buf(going, Slot::Empty);
         taken.spi_buf = false;
-        let begun = transfer_of(
+        let transfer = transfer_of(
             4,
             buffer,
             18,
@@ -172,7 +186,7 @@ fn frame_write_from(d: Driver, buffer: u8, length: u8) -> Started
             n as u16 + 2,
             b.spi_buf_len,
         );
-        return begin(d, taken, begun);
+        return begin(d, taken, transfer);
     }
     refrain(d)
 }

@@ -7,16 +7,16 @@ use crate::answer::step_of;
 use crate::arrived::Arrived;
 use crate::driver::Driver;
 use crate::driver::Slot;
+use crate::driver::with_buffers;
+use crate::driver::with_flags;
 use crate::driver::with_state;
 use crate::driver::with_tx_buf;
+use crate::record::buffer_in;
 use crate::state::InternalState;
-use crate::step::buffer_in;
 use crate::step::state_transition_read;
 use crate::step::stay;
 use crate::step::trx_command;
 use crate::step::with_actions;
-use crate::step::with_buffers;
-use crate::step::with_flags;
 use crate::transfer::frame_write;
 use rf233_const::flags::TRX_TRAC_CHANNEL_ACCESS_FAILURE;
 use rf233_const::register::RF233Register;
@@ -27,13 +27,14 @@ use rf233_const::trx_state::trac_of;
 ghost use mathlib.Core.Path.{_≡_};
 ghost use mathlib.Core.Bool.{true};
 ghost use mathlib.Core.List.{[], _∷_};
+ghost use Rattle.rf233.specs.Case.{ownCase};
 ghost use Rattle.rf233.specs.Choice.{oneOf};
-ghost use Rattle.rf233.specs.Engine.{own, sendDone};
 ghost use Rattle.rf233.specs.State.{stateNo};
+ghost use Rattle.rf233.specs.Transmit.{sendDone};
 
 pub fn transmit_case(d: Driver, a: Arrived) -> Outcome
     requires { ⌜ oneOf (33 ∷ 35 ∷ 36 ∷ 37 ∷ 38 ∷ 39 ∷ 41 ∷ 42 ∷ 43 ∷ []) (stateNo (d .state)) ≡ true ⌝ }
-    ensures { λ r. ⌜ r ≡ own a d ⌝ }
+    ensures { λ r. ⌜ r ≡ ownCase a d ⌝ }
 {
     let s = d.state;
     match s {
@@ -83,7 +84,7 @@ fn is_busy(status: u8) -> bool
 // Before the frame is written: with a busy receiver the driver waits for its interrupt.
 fn tx_status_precheck1(d: Driver, a: Arrived) -> Outcome
     requires { ⌜ stateNo (d .state) ≡ 33 ⌝ }
-    ensures { λ r. ⌜ r ≡ own a d ⌝ }
+    ensures { λ r. ⌜ r ≡ ownCase a d ⌝ }
 {
     if is_busy(a.status) {
         return stay(with_state(d, InternalState::TX_PENDING));
@@ -97,7 +98,7 @@ fn tx_status_precheck1(d: Driver, a: Arrived) -> Outcome
 // After the frame is written: with a busy receiver the reception comes first.
 fn tx_status_precheck2(d: Driver, a: Arrived) -> Outcome
     requires { ⌜ stateNo (d .state) ≡ 36 ⌝ }
-    ensures { λ r. ⌜ r ≡ own a d ⌝ }
+    ensures { λ r. ⌜ r ≡ ownCase a d ⌝ }
 {
     if is_busy(a.status) {
         let mut flags = d.flags;
@@ -110,7 +111,7 @@ fn tx_status_precheck2(d: Driver, a: Arrived) -> Outcome
 // The radio is on its way to PLL_ON: asked again while it moves, told again where it went elsewhere.
 fn tx_pll_wait(d: Driver, a: Arrived) -> Outcome
     requires { ⌜ stateNo (d .state) ≡ 38 ⌝ }
-    ensures { λ r. ⌜ r ≡ own a d ⌝ }
+    ensures { λ r. ⌜ r ≡ ownCase a d ⌝ }
 {
     let mut flags = d.flags;
     flags.transmitting = true;
@@ -130,7 +131,7 @@ fn tx_pll_wait(d: Driver, a: Arrived) -> Outcome
 // The frame was sent: its buffer goes back, to the listener or, with none, dropped.
 fn tx_return_to_rx(d: Driver, a: Arrived) -> Outcome
     requires { ⌜ stateNo (d .state) ≡ 43 ⌝ }
-    ensures { λ r. ⌜ r ≡ own a d ⌝ }
+    ensures { λ r. ⌜ r ≡ ownCase a d ⌝ }
 {
     let status = a.status;
     let ready = external_state_number(ExternalState::RX_AACK_ON);

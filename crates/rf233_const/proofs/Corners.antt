@@ -5,7 +5,13 @@ use mathlib.Core.Path.{_≡_}
 use Rattle.rf233_const.specs.Command.{registerRead, registerWrite, frameRead, frameWrite}
 use Rattle.rf233_const.specs.Register.{registerAddress}
 use Rattle.rf233_const.specs.Settings.{startupValues}
-use Rattle.rf233_const.specs.declared.register.RF233Register.the-variants.{«PART_NUM», «TRX_STATUS», «PAN_ID_0», «PAN_ID_1», «SHORT_ADDR_0»}
+use Rattle.rf233_const.specs.declared.register.RF233Register.the-variants.{
+  «PART_NUM»,
+  «TRX_STATUS»,
+  «PAN_ID_0»,
+  «PAN_ID_1»,
+  «SHORT_ADDR_0»,
+}
 
 pub record CornersHold : Type 0 where
   pub trx-ctrl-1 : startupValues .«trx_ctrl_1» ≡ 0xA4

@@ -9,19 +9,16 @@ use lib.Pow.{pow-pos, high-ones}
 use lib.Dec.{eqb}
 use borrow.Author.Tests.{eq-eqb, ne-eqb, eqb-true, eqb-false}
 use Rattle.rf233_const.specs.Bits.{bitField, fieldAt, bitSet}
+use Rattle.laws.proofs.Logic.{by-value}
 
 -- A mask of w ones from bit k up leaves the field there, at its place.
 pub masked : (k w n : ℕ) → bitAnd n (2 ^ (w + k) - 2 ^ k) ≡ fieldAt k (bitField k w n)
 masked k w n = and-high n w k
 
-by-flag : (t x : Bool) → (t ≡ true → x ≡ true) → (t ≡ false → x ≡ false) → x ≡ t
-by-flag true x p q = p refl
-by-flag false x p q = q refl
-
 -- Two fields at one place are equal exactly if their values are.
 at-one-place : (k a b : ℕ) → eqb (fieldAt k a) (fieldAt k b) ≡ eqb a b
 at-one-place k a b =
-    by-flag (eqb a b) (eqb (fieldAt k a) (fieldAt k b))
+    by-value (eqb a b) (eqb (fieldAt k a) (fieldAt k b))
     (λ e. eq-eqb _ _ (ap (fieldAt k) (eqb-true a b e)))
     (λ e. ne-eqb _ _ (λ q. eqb-false a b e (eq-of-mul-eq-mul-right (2 ^ k) (pow-pos k) a b q)))
 

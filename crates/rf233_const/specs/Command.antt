@@ -2,7 +2,14 @@
 use Prim.Native.Nat.{ℕ, _+_}
 use Rattle.rf233_const.specs.Bits.{fieldAt}
 use Rattle.rf233_const.specs.declared.command.RF233BusCommand.{RF233BusCommand}
-use Rattle.rf233_const.specs.declared.command.RF233BusCommand.the-variants.{«REGISTER_READ», «REGISTER_WRITE», «FRAME_READ», «FRAME_WRITE», «SRAM_READ», «SRAM_WRITE»}
+use Rattle.rf233_const.specs.declared.command.RF233BusCommand.the-variants.{
+  «REGISTER_READ»,
+  «REGISTER_WRITE»,
+  «FRAME_READ»,
+  «FRAME_WRITE»,
+  «SRAM_READ»,
+  «SRAM_WRITE»,
+}
 
 -- A register access: the top two bits are 10 to read and 11 to write, the lower six are the register's address.
 abbrev pub registerRead : ℕ → ℕ

@@ -1,7 +1,16 @@
 -- The bits of IRQ_STATUS and IRQ_MASK (AT86RF233 datasheet, "Interrupt Logic").
 use Prim.Native.Nat.{ℕ}
 use Rattle.rf233_const.specs.declared.interrupt.InteruptFlags.{InteruptFlags}
-use Rattle.rf233_const.specs.declared.interrupt.InteruptFlags.the-variants.{«IRQ_7_BAT_LOW», «IRQ_6_TRX_UR», «IRQ_5_AMI», «IRQ_4_CCA_ED_DONE», «IRQ_3_TRX_END», «IRQ_2_RX_START», «IRQ_1_PLL_UNLOCK», «IRQ_0_PLL_LOCK»}
+use Rattle.rf233_const.specs.declared.interrupt.InteruptFlags.the-variants.{
+  «IRQ_7_BAT_LOW»,
+  «IRQ_6_TRX_UR»,
+  «IRQ_5_AMI»,
+  «IRQ_4_CCA_ED_DONE»,
+  «IRQ_3_TRX_END»,
+  «IRQ_2_RX_START»,
+  «IRQ_1_PLL_UNLOCK»,
+  «IRQ_0_PLL_LOCK»,
+}
 
 -- The number of an interrupt's bit.
 abbrev pub interruptBit : InteruptFlags → ℕ

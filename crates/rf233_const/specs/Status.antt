@@ -2,7 +2,21 @@
 use Prim.Native.Nat.{ℕ}
 use Rattle.rf233_const.specs.Bits.{bitField}
 use Rattle.rf233_const.specs.declared.status.ExternalState.{ExternalState}
-use Rattle.rf233_const.specs.declared.status.ExternalState.the-variants.{ON, «BUSY_RX», «BUSY_TX», «RX_ON», «TRX_OFF», «PLL_ON», SLEEP, «PREP_DEEP_SLEEP», «BUSY_RX_AACK», «BUSY_TX_ARET», «RX_AACK_ON», «TX_ARET_ON», «STATE_TRANSITION_IN_PROGRESS»}
+use Rattle.rf233_const.specs.declared.status.ExternalState.the-variants.{
+  ON,
+  «BUSY_RX»,
+  «BUSY_TX»,
+  «RX_ON»,
+  «TRX_OFF»,
+  «PLL_ON»,
+  SLEEP,
+  «PREP_DEEP_SLEEP»,
+  «BUSY_RX_AACK»,
+  «BUSY_TX_ARET»,
+  «RX_AACK_ON»,
+  «TX_ARET_ON»,
+  «STATE_TRANSITION_IN_PROGRESS»,
+}
 
 -- The value of each state. The datasheet calls ON P_ON.
 abbrev pub statusValue : ExternalState → ℕ

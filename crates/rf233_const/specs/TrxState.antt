@@ -2,7 +2,14 @@
 use Prim.Native.Nat.{ℕ}
 use Rattle.rf233_const.specs.Bits.{bitField, fieldAt}
 use Rattle.rf233_const.specs.declared.trx_state.RF233TrxCmd.{RF233TrxCmd}
-use Rattle.rf233_const.specs.declared.trx_state.RF233TrxCmd.the-variants.{«TX_START», «RX_ON», OFF, «PLL_ON», «RX_AACK_ON», «TX_ARET_ON»}
+use Rattle.rf233_const.specs.declared.trx_state.RF233TrxCmd.the-variants.{
+  «TX_START»,
+  «RX_ON»,
+  OFF,
+  «PLL_ON»,
+  «RX_AACK_ON»,
+  «TX_ARET_ON»,
+}
 
 -- The value of each command. The datasheet calls OFF TRX_OFF.
 abbrev pub commandValue : RF233TrxCmd → ℕ

@@ -1,6 +1,6 @@
 -- Laws of decimal digits: what one more digit does, and when a word says no number. Assumes nothing.
 use mathlib.Core.Path.{_≡_, refl, sym, _∙_}
-use mathlib.Core.Bool.{Bool, true, false, _&&_}
+use mathlib.Core.Bool.{Bool, true, false, _&&_, and-false}
 use mathlib.Core.List.{List, [], _∷_}
 use Prim.Native.Nat.{ℕ, suc, _+_, _*_, _-_, _^_, _≤_, _<_}
 use native.Mathlib.Numerals.{add-one}
@@ -42,12 +42,8 @@ digit b h k = rw (le-leb _ _ h, le-leb _ _ k)
 pub below : (b : ℕ) → b < 48 → isDigit b ≡ false
 below b h = rw (lt-leb _ _ h)
 
-both-false : (x : Bool) → (x && false) ≡ false
-both-false true = refl
-both-false false = refl
-
 pub above : (b : ℕ) → 57 < b → isDigit b ≡ false
-above b h = rw (lt-leb _ _ h, both-false)
+above b h = rw (lt-leb _ _ h, and-false)
 
 -- when a word says a number
 module _ (w : List ℕ) where
@@ -57,11 +53,11 @@ module _ (w : List ℕ) where
 
   pub none-other : allDigits w ≡ false → decimalOf w ≡ noDecimal
   unfolding decimalOf
-  none-other h = rw (h, both-false)
+  none-other h = rw (h, and-false)
 
   pub none-large : 2 ^ 64 ≤ valueFrom 0 w → decimalOf w ≡ noDecimal
   unfolding decimalOf
-  none-large h = rw (le-ltb _ _ h, both-false (allDigits w), both-false)
+  none-large h = rw (le-ltb _ _ h, and-false (allDigits w), and-false)
 
   pub some : 0 < length w → allDigits w ≡ true → valueFrom 0 w < 2 ^ 64 → decimalOf w ≡ numberIf true (valueFrom 0 w)
   unfolding decimalOf

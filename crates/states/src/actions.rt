@@ -33,7 +33,8 @@ fn action_name(out: &mut [u8], at: usize, i: u8) -> usize {
     nth(
         out,
         at,
-        b"- power sent received config_done dropped irq.make_input irq.clear irq.set_floating_state irq.enable_interrupts irq.disable_interrupts sleep.make_output sleep.set sleep.clear reset.make_output reset.clear reset.set",
+        b"- power sent received config_done dropped irq.make_input irq.clear irq.set_floating_state irq.enable_interrupts \
+          irq.disable_interrupts sleep.make_output sleep.set sleep.clear reset.make_output reset.clear reset.set",
         i,
     )
 }

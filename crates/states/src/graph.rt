@@ -283,7 +283,10 @@ pub fn graph(out: &mut [u8]) -> usize {
     let a = text(
         out,
         0,
-        b"digraph states {\n  newrank=true; nodesep=0.25; ranksep=0.35; fontname=\"DejaVu Sans\"; fontsize=20;\n  node [shape=box, style=rounded, fontname=\"DejaVu Sans\", fontsize=16];\n  edge [fontname=\"DejaVu Sans\", fontsize=14];\n  any [label=\"every other state\", shape=plaintext];\n  { rank=same; any; 29; }\n  { rank=same; edge [style=invis]; 0 -> 15 -> 45 -> 30 -> 33 -> 59; }\n  any -> 59 [style=invis];\n",
+        b"digraph states {\n  newrank=true; nodesep=0.25; ranksep=0.35; fontname=\"DejaVu Sans\"; fontsize=20;\n  node [shape=box, \
+          style=rounded, fontname=\"DejaVu Sans\", fontsize=16];\n  edge [fontname=\"DejaVu Sans\", fontsize=14];\n  any [label=\"every \
+          other state\", shape=plaintext];\n  { rank=same; any; 29; }\n  { rank=same; edge [style=invis]; 0 -> 15 -> 45 -> 30 -> 33 -> \
+          59; }\n  any -> 59 [style=invis];\n",
     );
     let b = clusters(out, a);
     let c = completions(out, b);
@@ -291,6 +294,7 @@ pub fn graph(out: &mut [u8]) -> usize {
     text(
         out,
         d,
-        b"  labelloc=t; label=\"AT86RF233 driver. Black: a completion, with its condition and the transfer that it starts. Blue: an interrupt. Green: a call. Red: the arrow goes on at that state.\";\n}\n",
+        b"  labelloc=t; label=\"AT86RF233 driver. Black: a completion, with its condition and the transfer that it starts. Blue: an \
+          interrupt. Green: a call. Red: the arrow goes on at that state.\";\n}\n",
     )
 }

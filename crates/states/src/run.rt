@@ -4,16 +4,16 @@ use crate::situation::AT_REST;
 use crate::situation::length_byte;
 use crate::situation::result_byte;
 use crate::situation::status_byte;
+use rf233::answer::Outcome;
 use rf233::config::config_commit;
 use rf233::config::reset;
 use rf233::config::start;
 use rf233::config::stop;
 use rf233::data::set_receive_buffer;
 use rf233::data::transmit;
+use rf233::driver::Driver;
 use rf233::kernel::fire;
 use rf233::kernel::read_write_done;
-use rf233::answer::Outcome;
-use rf233::driver::Driver;
 
 // The pool's 3,040 bytes, all 0.
 fn new_pool() -> [u8; 3040] {

@@ -26,10 +26,10 @@ fn takes_rx(n: u8) -> bool {
 // takes the receive buffer has it.
 pub fn is_possible(n: u8, c: u8) -> bool {
     let frame = names_frame(n);
-    let taken = takes_rx(n);
+    let takes = takes_rx(n);
     let reads = ((NO_INTERRUPT <= c) & (c <= 40)) | (c == AT_REST);
     let without = (c == 37) | (c == 38);
-    !(frame & reads) & !(taken & without)
+    !(frame & reads) & !(takes & without)
 }
 
 // The situation has a frame to send.
@@ -46,14 +46,14 @@ fn is_on(n: u8, c: u8) -> bool {
 
 fn flags(n: u8, c: u8) -> Flags {
     let on = is_on(n, c);
-    let sending = (33 <= n) & (n <= 44) & (c < AT_REST) & (c != 37);
+    let transmits = (33 <= n) & (n <= 44) & (c < AT_REST) & (c != 37);
     let committing = (45 <= n) & (n <= 58) & (c < AT_REST);
     let waits = sends(c);
     let reads_irq = (NO_INTERRUPT <= c) & (c <= 40);
     let frame = names_frame(n);
     Flags {
         radio_on: on,
-        transmitting: sending | waits,
+        transmitting: transmits | waits,
         receiving: (c == 21) | ((36 <= c) & (c <= 38)),
         crc_valid: c == 22,
         interrupt_handling: reads_irq & !frame,
@@ -100,19 +100,19 @@ fn under_way(n: u8, c: u8) -> Under {
 }
 
 fn tx_buf(n: u8, c: u8) -> Slot {
-    let taken = (n == 33) | (n == 43);
+    let takes = (n == 33) | (n == 43);
     let natural = (33 <= n) & (n <= 44) & (c < AT_REST);
     let waits = sends(c);
-    if (taken | natural | waits) & (n != 34) {
+    if (takes | natural | waits) & (n != 34) {
         return Slot::Held(0, 130);
     }
     Slot::Empty
 }
 
 fn rx_buf(n: u8, c: u8) -> Slot {
-    let taken = takes_rx(n);
+    let takes = takes_rx(n);
     let without = (c == 37) | (c == 38) | (AT_REST <= c);
-    if (taken | !without) & (n != 63) & (n != 65) {
+    if (takes | !without) & (n != 63) & (n != 65) {
         return Slot::Held(1, 130);
     }
     Slot::Empty

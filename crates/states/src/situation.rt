@@ -26,7 +26,13 @@ fn name(out: &mut [u8], at: usize, c: u8) -> usize {
     nth(
         out,
         at,
-        b"- other ON BUSY_RX BUSY_TX RX_ON TRX_OFF PLL_ON SLEEP PREP_DEEP_SLEEP BUSY_RX_AACK BUSY_TX_ARET TX_ARET_ON STATE_TRANSITION_IN_PROGRESS 10 11 127 128 0x20 0x60 transmitting receiving crc_valid config_pending sleep_pending wake_pending power_client_pending radio_off no_listener length_byte_1 radio_off+no_listener transmitting+no_listener IRQ_none IRQ_0_PLL_LOCK IRQ_2_RX_START IRQ_3_TRX_END IRQ_3_TRX_END+receiving IRQ_3_TRX_END+receiving+no_rx_buf IRQ_3_TRX_END+receiving+no_rx_buf+transmitting IRQ_0_PLL_LOCK+interrupt_pending IRQ_3_TRX_END+interrupt_pending interrupt_pending firing start stop config_commit transmit set_receive_buffer reset firing_in_transfer start_in_transfer stop_in_transfer config_commit_in_transfer",
+        b"- other ON BUSY_RX BUSY_TX RX_ON TRX_OFF PLL_ON SLEEP PREP_DEEP_SLEEP BUSY_RX_AACK BUSY_TX_ARET TX_ARET_ON \
+          STATE_TRANSITION_IN_PROGRESS 10 11 127 128 0x20 0x60 transmitting receiving crc_valid config_pending sleep_pending wake_pending \
+          power_client_pending radio_off no_listener length_byte_1 radio_off+no_listener transmitting+no_listener IRQ_none IRQ_0_PLL_LOCK \
+          IRQ_2_RX_START IRQ_3_TRX_END IRQ_3_TRX_END+receiving IRQ_3_TRX_END+receiving+no_rx_buf \
+          IRQ_3_TRX_END+receiving+no_rx_buf+transmitting IRQ_0_PLL_LOCK+interrupt_pending IRQ_3_TRX_END+interrupt_pending \
+          interrupt_pending firing start stop config_commit transmit set_receive_buffer reset firing_in_transfer start_in_transfer \
+          stop_in_transfer config_commit_in_transfer",
         c,
     )
 }

@@ -103,7 +103,8 @@ fn heading(out: &mut [u8], at: usize) -> usize {
     text(
         out,
         at,
-        b"state                         condition                                       next state                   transfer                     flags set (+) and cleared (-)                 actions\n",
+        b"state                         condition                                       next state                   \
+          transfer                     flags set (+) and cleared (-)                 actions\n",
     )
 }
 
@@ -111,7 +112,10 @@ fn about_completions(out: &mut [u8], at: usize) -> usize {
     text(
         out,
         at,
-        b"COMPLETIONS. The plain one (-) has status RX_AACK_ON, result 0, length byte 20, every listener, and no flag but the state's own; from READY on\nthe radio is on, but for sleep. Another line differs from it in what its condition names. Every condition is tried in every state: one that has\nno line does as the plain one, or as an earlier line. A step passes through 62 and 66; their lines are what it does there.\nSettings: address 0xABCD, PAN 0x1234, long address 1 to 8, power 0, channel 26.\n\n",
+        b"COMPLETIONS. The plain one (-) has status RX_AACK_ON, result 0, length byte 20, every listener, and no flag but the state's \
+          own; from READY on\nthe radio is on, but for sleep. Another line differs from it in what its condition names. Every condition \
+          is tried in every state: one that has\nno line does as the plain one, or as an earlier line. A step passes through 62 and 66; \
+          their lines are what it does there.\nSettings: address 0xABCD, PAN 0x1234, long address 1 to 8, power 0, channel 26.\n\n",
     )
 }
 
@@ -119,7 +123,11 @@ fn about_events(out: &mut [u8], at: usize) -> usize {
     text(
         out,
         at,
-        b"\nINTERRUPTS AND CALLS: what each does in every other state, where that is one thing, and the states where it does another.\nIRQ_ is a completion of the read of IRQ_STATUS that shows that interrupt; where no line says more, a state does as if none were shown. In 34, 63\nand 65 a frame transfer is under way, so that IRQ_STATUS is not being read there; 62, 64 and 68 have the receive buffer, so that no_rx_buf is\nnot said of them. Firings and calls come while no register transfer is under way, or in_transfer; the radio is on, no other flag is set, and a\nbuffer is held only where the state takes one.\n\n",
+        b"\nINTERRUPTS AND CALLS: what each does in every other state, where that is one thing, and the states where it does another.\n\
+          IRQ_ is a completion of the read of IRQ_STATUS that shows that interrupt; where no line says more, a state does as if none were \
+          shown. In 34, 63\nand 65 a frame transfer is under way, so that IRQ_STATUS is not being read there; 62, 64 and 68 have the \
+          receive buffer, so that no_rx_buf is\nnot said of them. Firings and calls come while no register transfer is under way, or \
+          in_transfer; the radio is on, no other flag is set, and a\nbuffer is held only where the state takes one.\n\n",
     )
 }
 

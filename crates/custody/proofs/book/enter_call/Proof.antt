@@ -17,4 +17,6 @@ returns-4 : tie.Need-returns-4
 returns-4 c = rw (c .enum-told2 .given .1, twice)
 
 pub enter-call-spec : {M : Type 1} → statement M
-enter-call-spec = tie.close (tie.spec (λ c. search needs) (λ c κs. search needs) (λ c. search needs) (λ c κs. search needs) (λ c. search needs) (λ c κs. search needs) (λ c. search needs) returns returns-2 returns-3 returns-4)
+enter-call-spec =
+    tie.close (tie.spec (λ c. search needs) (λ c κs. search needs) (λ c. search needs) (λ c κs. search needs) (λ c. search needs)
+    (λ c κs. search needs) (λ c. search needs) returns returns-2 returns-3 returns-4)

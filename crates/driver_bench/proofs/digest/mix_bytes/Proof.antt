@@ -12,4 +12,6 @@ abbrev μ-loop : tie.MeasureT-loop
 μ-loop d part mixed₀ i₀ mixed i = length part - i
 
 pub mix-bytes-spec : {M : Type 1} → statement M
-mix-bytes-spec = tie.close (tie.spec Inv-loop μ-loop (λ c. search needs) (λ c. search needs) (λ c κs. search needs) (λ c. search needs) (λ c. search needs) (λ c. search needs) (λ c. search needs))
+mix-bytes-spec =
+    tie.close (tie.spec Inv-loop μ-loop (λ c. search needs) (λ c. search needs) (λ c κs. search needs) (λ c. search needs)
+    (λ c. search needs) (λ c. search needs) (λ c. search needs))

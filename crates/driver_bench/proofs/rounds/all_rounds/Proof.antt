@@ -12,4 +12,6 @@ abbrev μ-loop : tie.MeasureT-loop
 μ-loop events rounds pool₀ run₀ left₀ pool run left = left
 
 pub all-rounds-spec : {M : Type 1} → statement M
-all-rounds-spec = tie.close (tie.spec Inv-loop μ-loop (λ c. search needs) (λ c κs. search needs) (λ c. search needs) (λ c. search needs) (λ c. search needs) (λ c. search needs) (λ c. search needs))
+all-rounds-spec =
+    tie.close (tie.spec Inv-loop μ-loop (λ c. search needs) (λ c κs. search needs) (λ c. search needs) (λ c. search needs)
+    (λ c. search needs) (λ c. search needs) (λ c. search needs))

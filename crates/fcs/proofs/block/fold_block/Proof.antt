@@ -13,7 +13,8 @@ use Rattle.fcs.proofs.block.fold_block.Tie as tie
 returns : tie.Need-returns
 unfolding _⊕_
 returns c =
-    let s = c .before .before .before .before .before .before .before .args .s in
+    let start = c .before .before .before .before .before .before .before in
+    let s = start .args .s in
     four-turns _ _ _ _
     ∙ next-four (s .a) (s .b) (s .c) (s .d) (omega arith) (omega arith) (omega arith) (omega arith)
     ∙ ap (turns 256) (sym (four-turns (s .a) (s .b) (s .c) (s .d)))

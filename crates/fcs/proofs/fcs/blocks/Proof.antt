@@ -71,7 +71,8 @@ loop-again c =
     let at = head .loop .at in
     let f = fold .fold-block .result in (
       omega arith,
-      with-data (fcsOf (take at bytes)) (f .a) (f .b) (f .c) (f .d) (first .word-at .result) (second .word-at2 .result) (third .word-at3 .result)
+      with-data (fcsOf (take at bytes)) (f .a) (f .b) (f .c) (f .d) (first .word-at .result) (second .word-at2 .result)
+          (third .word-at3 .result)
           (fourth .word-at4 .result)
           (fold .fold-block .ensures ∙ ap (reduced 256) (head .loop .inv .1))
           ∙ four-words bytes byte at (omega arith) (first .word-at .ensures) (second .word-at2 .ensures) (third .word-at3 .ensures)

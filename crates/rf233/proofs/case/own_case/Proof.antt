@@ -3,8 +3,8 @@
 use mathlib.Core.Path.{_≡_, refl}
 use mathlib.Core.List.{[], _∷_}
 use borrow.Author.Needs.{needs}
-use Rattle.rf233.specs.Engine.{caseOf, perform}
-use Rattle.rf233.specs.Rows.{eval, trees, treeAt}
+use Rattle.rf233.specs.Case.{caseOf, perform, trees, treeAt}
+use Rattle.rf233.specs.Rows.{eval}
 use Rattle.rf233.specs.Rows.Access.{none}
 use Rattle.rf233.specs.Rows.Next.{same}
 use Rattle.rf233.specs.Rows.Row.{does}
@@ -17,7 +17,11 @@ returns : tie.Need-returns
 unfolding caseOf treeAt trees eval perform
 returns c =
     let s = c .before .before .args .d .state in
-    rw (at-keys (λ n. treeAt n ≡ leaf (does [] none same [])) (27 ∷ 31 ∷ 34 ∷ 40 ∷ 44 ∷ 59 ∷ 61 ∷ 63 ∷ 65 ∷ []) s (refl, (refl, (refl, (refl, (refl, (refl, (refl, (refl, (refl, tt))))))))) (c .before .match .keys1), c .stay .ensures)
+    rw (
+      at-keys (λ n. treeAt n ≡ leaf (does [] none same [])) (27 ∷ 31 ∷ 34 ∷ 40 ∷ 44 ∷ 59 ∷ 61 ∷ 63 ∷ 65 ∷ []) s
+          (refl, (refl, (refl, (refl, (refl, (refl, (refl, (refl, (refl, tt))))))))) (c .before .match .keys1),
+      c .stay .ensures,
+    )
 
 pub own-case-spec : {M : Type 1} → statement M
 own-case-spec =

@@ -5,7 +5,15 @@ use Rattle.rf233.proofs.completion.transfer_over.Tie as tie
 
 returns : tie.Need-returns
 returns c =
-    rw (c .before .with-buffers .ensures, c .before .before .buffers-back .ensures, c .before .before .before .with-state .ensures, c .before .before .before .before .frame-done .ensures)
+    let at-buffers-back = c .before .before in
+    let at-with-state = at-buffers-back .before in
+    let at-frame-done = at-with-state .before in
+    rw (
+      c .before .with-buffers .ensures,
+      at-buffers-back .buffers-back .ensures,
+      at-with-state .with-state .ensures,
+      at-frame-done .frame-done .ensures,
+    )
 
 pub transfer-over-spec : {M : Type 1} → statement M
 transfer-over-spec =

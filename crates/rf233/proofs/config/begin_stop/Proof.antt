@@ -1,25 +1,31 @@
--- `begin_stop` meets its contract: each way is an end of the choice that its test makes. Assumes nothing.
+-- `begin_stop` meets its contract: each arm is an end of the choice that the definition makes. Assumes nothing.
 use borrow.Author.Needs.{needs}
-use mathlib.Core.Path.{sym, _∙_}
-use lib.Dec.{eqb}
+use mathlib.Core.List.{[], _∷_}
 use Rattle.rf233.specs.Choice.{pick}
-use Rattle.rf233.specs.State.{stateNo}
-use Rattle.rf233.proofs.StateTests.{two}
-use Rattle.rf233.specs.Calls.{stopped}
+use Rattle.rf233.specs.Config.{beginStop}
+use Rattle.rf233.proofs.Keys.{named, elsewhere}
 use Rattle.rf233.proofs.config.begin_stop.Statement.{statement}
 use Rattle.rf233.proofs.config.begin_stop.Tie as tie
 
 returns : tie.Need-returns
-unfolding stopped pick
+unfolding beginStop pick
 returns c =
-    let n = stateNo (c .before .before .before .before .before .args .d .state) in
-    rw (sym (two (eqb n 27) (eqb n 29)) ∙ (rw (c .before .before .before .before .state-number .ensures) at (c .before .before .if1 .taken)), c .trx-command .ensures, c .before .with-flags .ensures)
+    let at = c .before .before in
+    rw (
+      named (27 ∷ 29 ∷ []) (at .before .before .args .d .state) tt (at .match .keys1),
+      c .trx-command .ensures,
+      c .before .with-flags .ensures,
+    )
 
 returns-2 : tie.Need-returns-2
-unfolding stopped pick
+unfolding beginStop pick
 returns-2 c =
-    let n = stateNo (c .before .before .before .before .before .args .d .state) in
-    rw (sym (two (eqb n 27) (eqb n 29)) ∙ (rw (c .before .before .before .before .state-number .ensures) at (c .before .before .if1 .left)), c .stay .ensures, c .before .with-flags2 .ensures)
+    let at = c .before .before in
+    rw (
+      elsewhere (27 ∷ 29 ∷ []) (at .before .before .args .d .state) tt (at .match .keys2),
+      c .stay .ensures,
+      c .before .with-flags2 .ensures,
+    )
 
 pub begin-stop-spec : {M : Type 1} → statement M
 begin-stop-spec =
@@ -28,7 +34,6 @@ begin-stop-spec =
     (λ c κs. search needs)
     (λ c κs. search needs)
     (λ c κs. search needs)
+    (λ c κs. search needs)
     returns
-    (λ c κs. search needs)
-    (λ c κs. search needs)
     returns-2)

@@ -1,7 +1,7 @@
 -- `config_commit` meets its contract: refusal 12, or the step. Assumes nothing.
 use borrow.Author.Needs.{needs}
 use Rattle.rf233.specs.Choice.{pick}
-use Rattle.rf233.specs.Calls.{commitCall}
+use Rattle.rf233.specs.Config.{commitCall}
 use Rattle.rf233.proofs.config.config_commit.Statement.{statement}
 use Rattle.rf233.proofs.config.config_commit.Tie as tie
 
@@ -14,10 +14,22 @@ returns c = (
 
 returns-2 : tie.Need-returns-2
 unfolding commitCall pick
-returns-2 c = (
-  rw (rw (c .before .before .before .before .before .before .pool-fault .ensures) at (c .before .before .before .before .before .if1 .left), c .before .before .finish .ensures .0, c .before .before .before .before .begin-commit .ensures),
-  rw (rw (c .before .before .before .before .before .before .pool-fault .ensures) at (c .before .before .before .before .before .if1 .left), c .before .before .finish .ensures .1, c .before .before .before .before .begin-commit .ensures),
-)
+returns-2 c =
+    let at-finish = c .before .before in
+    let at-begin-commit = at-finish .before .before in
+    let at-if1 = at-begin-commit .before in
+    let at-pool-fault = at-if1 .before in (
+      rw (
+        rw (at-pool-fault .pool-fault .ensures) at (at-if1 .if1 .left),
+        at-finish .finish .ensures .0,
+        at-begin-commit .begin-commit .ensures,
+      ),
+      rw (
+        rw (at-pool-fault .pool-fault .ensures) at (at-if1 .if1 .left),
+        at-finish .finish .ensures .1,
+        at-begin-commit .begin-commit .ensures,
+      ),
+    )
 
 pub config-commit-spec : {M : Type 1} → statement M
 config-commit-spec =

@@ -1,14 +1,16 @@
 -- `set_channel` meets its contract: the range decides. Assumes nothing.
 use borrow.Author.Needs.{needs}
 use Rattle.rf233.specs.Choice.{pick}
-use Rattle.rf233.specs.Calls.{setChannel}
+use Rattle.rf233.specs.Config.{setChannel}
 use Rattle.rf233.proofs.config.set_channel.Statement.{statement}
 use Rattle.rf233.proofs.config.set_channel.Tie as tie
 
 returns : tie.Need-returns
 unfolding setChannel pick
 returns c =
-    rw (rw (c .before .before .before .before .channel-fits .ensures) at (c .before .before .before .if1 .taken), c .stay .ensures, c .before .with-settings .ensures)
+    let at-if1 = c .before .before .before in
+    let at-channel-fits = at-if1 .before in
+    rw (rw (at-channel-fits .channel-fits .ensures) at (at-if1 .if1 .taken), c .stay .ensures, c .before .with-settings .ensures)
 
 returns-2 : tie.Need-returns-2
 unfolding setChannel pick

@@ -1,36 +1,42 @@
 -- `start` meets its contract: refusal 12, then the state, decide which way is taken. Assumes nothing.
 use borrow.Author.Needs.{needs}
-use mathlib.Core.Path.{sym, _∙_}
-use lib.Dec.{eqb}
+use mathlib.Core.List.{[], _∷_}
 use Rattle.rf233.specs.Choice.{pick}
-use Rattle.rf233.specs.State.{stateNo}
-use Rattle.rf233.proofs.StateTests.{two}
-use Rattle.rf233.specs.Calls.{startCall}
+use Rattle.rf233.specs.Config.{startCall}
+use Rattle.rf233.proofs.Keys.{named, elsewhere}
 use Rattle.rf233.proofs.config.start.Statement.{statement}
 use Rattle.rf233.proofs.config.start.Tie as tie
 
 returns : tie.Need-returns
 unfolding startCall pick
-returns c = (
-  rw (rw (c .before .before .pool-fault .ensures) at (c .before .if1 .taken), c .refuse .ensures),
-  rw (rw (c .before .before .pool-fault .ensures) at (c .before .if1 .taken)),
-)
+returns c =
+    let fault = rw (c .before .before .pool-fault .ensures) at (c .before .if1 .taken) in
+    (rw (fault, c .refuse .ensures), rw fault)
 
 returns-2 : tie.Need-returns-2
 unfolding startCall pick
 returns-2 c =
-    let n = stateNo (c .before .before .before .before .before .before .before .before .before .before .before .before .args .d .state) in (
-      rw (rw (c .before .before .before .before .before .before .before .before .before .before .pool-fault .ensures) at (c .before .before .before .before .before .before .before .before .before .if1 .left), sym (two (eqb n 0) (eqb n 31)) ∙ (rw (c .before .before .before .before .before .before .before .before .state-number .ensures) at (c .before .before .before .before .before .if2 .taken)), c .before .before .finish .ensures .0, c .before .before .before .before .begin-start .ensures, c .before .before .before .before .before .before .with-flags .ensures),
-      rw (rw (c .before .before .before .before .before .before .before .before .before .before .pool-fault .ensures) at (c .before .before .before .before .before .before .before .before .before .if1 .left), sym (two (eqb n 0) (eqb n 31)) ∙ (rw (c .before .before .before .before .before .before .before .before .state-number .ensures) at (c .before .before .before .before .before .if2 .taken)), c .before .before .finish .ensures .1, c .before .before .before .before .begin-start .ensures, c .before .before .before .before .before .before .with-flags .ensures),
+    let ends = c .before .before in
+    let at = ends .before .before .before in
+    let told = at .before in
+    let sound = told .before .before in
+    let start = sound .before .before .before in
+    let right = rw (sound .before .pool-fault .ensures) at (sound .if1 .left) in
+    let new = named (0 ∷ 31 ∷ []) (start .args .d .state) tt (at .match .keys1) in
+    let begins = ends .before .before .begin-start .ensures in (
+      rw (right, new, ends .finish .ensures .0, begins, told .with-flags .ensures),
+      rw (right, new, ends .finish .ensures .1, begins, told .with-flags .ensures),
     )
 
 returns-3 : tie.Need-returns-3
 unfolding startCall pick
 returns-3 c =
-    let n = stateNo (c .before .before .before .before .before .before .before .before .args .d .state) in (
-      rw (rw (c .before .before .before .before .before .before .pool-fault .ensures) at (c .before .before .before .before .before .if1 .left), sym (two (eqb n 0) (eqb n 31)) ∙ (rw (c .before .before .before .before .state-number .ensures) at (c .before .if2 .left)), c .refuse2 .ensures, c .before .before .with-flags .ensures),
-      rw (rw (c .before .before .before .before .before .before .pool-fault .ensures) at (c .before .before .before .before .before .if1 .left), sym (two (eqb n 0) (eqb n 31)) ∙ (rw (c .before .before .before .before .state-number .ensures) at (c .before .if2 .left))),
-    )
+    let told = c .before .before in
+    let sound = told .before .before in
+    let start = sound .before .before .before in
+    let right = rw (sound .before .pool-fault .ensures) at (sound .if1 .left) in
+    let other = elsewhere (0 ∷ 31 ∷ []) (start .args .d .state) tt (c .before .match .keys2) in
+    (rw (right, other, c .refuse2 .ensures, told .with-flags .ensures), rw (right, other))
 
 pub start-spec : {M : Type 1} → statement M
 start-spec =
@@ -45,5 +51,4 @@ start-spec =
     (λ c κs. search needs)
     (λ c. search needs)
     returns-2
-    (λ c κs. search needs)
     returns-3)

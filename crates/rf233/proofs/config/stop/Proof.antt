@@ -1,36 +1,38 @@
 -- `stop` meets its contract: refusal 12, then the state, decide which way is taken. Assumes nothing.
 use borrow.Author.Needs.{needs}
-use mathlib.Core.Path.{sym, _∙_}
-use lib.Dec.{eqb}
+use mathlib.Core.List.{[], _∷_}
 use Rattle.rf233.specs.Choice.{pick}
-use Rattle.rf233.specs.State.{stateNo}
-use Rattle.rf233.proofs.StateTests.{two}
-use Rattle.rf233.specs.Calls.{stopCall}
+use Rattle.rf233.specs.Config.{stopCall}
+use Rattle.rf233.proofs.Keys.{named, elsewhere}
 use Rattle.rf233.proofs.config.stop.Statement.{statement}
 use Rattle.rf233.proofs.config.stop.Tie as tie
 
 returns : tie.Need-returns
 unfolding stopCall pick
-returns c = (
-  rw (rw (c .before .before .pool-fault .ensures) at (c .before .if1 .taken), c .refuse .ensures),
-  rw (rw (c .before .before .pool-fault .ensures) at (c .before .if1 .taken)),
-)
+returns c =
+    let fault = rw (c .before .before .pool-fault .ensures) at (c .before .if1 .taken) in
+    (rw (fault, c .refuse .ensures), rw fault)
 
 returns-2 : tie.Need-returns-2
 unfolding stopCall pick
 returns-2 c =
-    let n = stateNo (c .before .before .before .before .before .before .args .d .state) in (
-      rw (rw (c .before .before .before .before .pool-fault .ensures) at (c .before .before .before .if1 .left), sym (two (eqb n 30) (eqb n 31)) ∙ (rw (c .before .before .state-number .ensures) at (c .before .if2 .taken)), c .refuse2 .ensures),
-      rw (rw (c .before .before .before .before .pool-fault .ensures) at (c .before .before .before .if1 .left), sym (two (eqb n 30) (eqb n 31)) ∙ (rw (c .before .before .state-number .ensures) at (c .before .if2 .taken))),
-    )
+    let sound = c .before .before in
+    let start = sound .before .before .before in
+    let right = rw (sound .before .pool-fault .ensures) at (sound .if1 .left) in
+    let asleep = named (30 ∷ 31 ∷ []) (start .args .d .state) tt (c .before .match .keys1) in
+    (rw (right, asleep, c .refuse2 .ensures), rw (right, asleep))
 
 returns-3 : tie.Need-returns-3
 unfolding stopCall pick
 returns-3 c =
-    let n = stateNo (c .before .before .before .before .before .before .before .before .before .before .args .d .state) in (
-      rw (rw (c .before .before .before .before .before .before .before .before .pool-fault .ensures) at (c .before .before .before .before .before .before .before .if1 .left), sym (two (eqb n 30) (eqb n 31)) ∙ (rw (c .before .before .before .before .before .before .state-number .ensures) at (c .before .before .before .before .before .if2 .left)), c .before .before .finish .ensures .0, c .before .before .before .before .begin-stop .ensures),
-      rw (rw (c .before .before .before .before .before .before .before .before .pool-fault .ensures) at (c .before .before .before .before .before .before .before .if1 .left), sym (two (eqb n 30) (eqb n 31)) ∙ (rw (c .before .before .before .before .before .before .state-number .ensures) at (c .before .before .before .before .before .if2 .left)), c .before .before .finish .ensures .1, c .before .before .before .before .begin-stop .ensures),
-    )
+    let ends = c .before .before in
+    let at = ends .before .before .before in
+    let sound = at .before in
+    let start = sound .before .before .before in
+    let right = rw (sound .before .pool-fault .ensures) at (sound .if1 .left) in
+    let other = elsewhere (30 ∷ 31 ∷ []) (start .args .d .state) tt (at .match .keys2) in
+    let begins = ends .before .before .begin-stop .ensures in
+    (rw (right, other, ends .finish .ensures .0, begins), rw (right, other, ends .finish .ensures .1, begins))
 
 pub stop-spec : {M : Type 1} → statement M
 stop-spec =
@@ -41,8 +43,7 @@ stop-spec =
     returns
     (λ c κs. search needs)
     (λ c κs. search needs)
+    (λ c κs. search needs)
     returns-2
-    (λ c κs. search needs)
-    (λ c κs. search needs)
     (λ c. search needs)
     returns-3)

@@ -1,4 +1,5 @@
--- `transmit` meets its contract: the refusals in order, then n is written, the send begins or waits and its command bytes are written. What 7 and 4 do not refuse fits a byte. Assumes nothing.
+-- `transmit` meets its contract: the refusals in order, then n is written, the send begins or waits and its command bytes are written.
+-- What 7 and 4 do not refuse fits a byte. Assumes nothing.
 use borrow.Author.Needs.{needs}
 use mathlib.Core.Bool.{false, not}
 use mathlib.Core.Path.{_≡_}
@@ -7,9 +8,10 @@ use native.Mathlib.Omega.{arith}
 use borrow.Author.Tests.{lt-ltb, le-ltb, ltb-false}
 use lib.Dec.{leb, ltb}
 use Rattle.rf233.specs.Choice.{pick}
-use Rattle.rf233.specs.Calls.{transmitCall, handleBad, txBusy}
-use Rattle.rf233.specs.Record.{poolFault, recordHas}
-use Rattle.rf233.proofs.Sound.{none-left, none-right}
+use Rattle.rf233.specs.Data.{transmitCall, handleBad, txBusy}
+use Rattle.rf233.specs.Guard.{poolFault}
+use Rattle.rf233.specs.Record.{recordHas}
+use Rattle.laws.proofs.Logic.{none-left, none-right}
 use Rattle.rf233.proofs.data.transmit.Statement.{statement}
 use Rattle.rf233.proofs.data.transmit.Tie as tie
 
@@ -20,19 +22,29 @@ not-12 c = rw (c .before .pool-fault .ensures) at (c .if1 .left)
 not-7 : (c : tie.Else2) → let x = c .before .before .before .before .before .args in handleBad (x .buffer) (x .length) ≡ false
 not-7 c = rw (c .before .handle-bad .ensures) at (c .if2 .left)
 
-not-1 : (c : tie.Else3) → let x = c .before .before .before .before .before .before .before .before .args in not (x .d .flags .«radio_on») ≡ false
+not-1 : (c : tie.Else3)
+    → let x = c .before .before .before .before .before .before .before .before .args in not (x .d .flags .«radio_on») ≡ false
 not-1 c = c .if3 .left
 
-not-2 : (c : tie.Else4) → let x = c .before .before .before .before .before .before .before .before .before .before .args in txBusy (x .d) ≡ false
+not-2 : (c : tie.Else4)
+    → let x = c .before .before .before .before .before .before .before .before .before .before .args in txBusy (x .d) ≡ false
 not-2 c = rw (c .before .tx-busy .ensures) at (c .if4 .left)
 
-not-3 : (c : tie.Else5) → let x = c .before .before .before .before .before .before .before .before .before .before .before .before .args in leb (x .length) (x .frame-len + 4) ≡ false
+not-3 : (c : tie.Else5)
+    → let x = c .before .before .before .before .before .before .before .before .before .before .before .before .args in
+    leb (x .length) (x .frame-len + 4) ≡ false
 not-3 c = rw (c .before .size-bad .ensures) at (c .if5 .left)
 
-not-4 : (c : tie.Else6) → let x = c .before .before .before .before .before .before .before .before .before .before .before .before .before .args in ltb 125 (x .frame-len) ≡ false
-not-4 c = le-ltb 125 (c .before .before .before .before .before .before .before .before .before .before .before .before .before .args .frame-len) (c .if6 .left)
+not-4 : (c : tie.Else6)
+    → let x = c .before .before .before .before .before .before .before .before .before .before .before .before .before .args in
+    ltb 125 (x .frame-len) ≡ false
+not-4 c =
+    le-ltb 125 (c .before .before .before .before .before .before .before .before .before .before .before .before .before .args .frame-len)
+    (c .if6 .left)
 
-not-8 : (c : tie.Else7) → let x = c .before .before .before .before .before .before .before .before .before .before .before .before .before .before .before .args in recordHas (x .d .buffers) (x .buffer) ≡ false
+not-8 : (c : tie.Else7)
+    → let x = c .before .before .before .before .before .before .before .before .before .before .before .before .before .before .before .args in
+    recordHas (x .d .buffers) (x .buffer) ≡ false
 not-8 c = rw (c .before .record-has .ensures) at (c .if7 .left)
 
 returns : tie.Need-returns
@@ -59,66 +71,96 @@ returns-3 c =
 returns-4 : tie.Need-returns-4
 unfolding transmitCall pick
 returns-4 c =
-    let pooled = not-12 (c .before .before .before .before .before .before .before .before) in
-    let named = not-7 (c .before .before .before .before .before .before) in
-    let on = not-1 (c .before .before .before) in
-    let free = rw (c .before .before .tx-busy .ensures) at (c .before .if4 .taken) in
+    let at-tx-busy = c .before .before in
+    let pooled = not-12 (at-tx-busy .before .before .before .before .before .before) in
+    let named = not-7 (at-tx-busy .before .before .before .before) in
+    let on = not-1 (at-tx-busy .before) in
+    let free = rw (at-tx-busy .tx-busy .ensures) at (c .before .if4 .taken) in
     (rw (pooled, named, on, free, c .refuse4 .ensures), rw (pooled, named, on, free))
 
 returns-5 : tie.Need-returns-5
 unfolding transmitCall pick
 returns-5 c =
-    let pooled = not-12 (c .before .before .before .before .before .before .before .before .before .before) in
-    let named = not-7 (c .before .before .before .before .before .before .before .before) in
-    let on = not-1 (c .before .before .before .before .before) in
-    let free = not-2 (c .before .before .before) in
-    let sized = rw (c .before .before .size-bad .ensures) at (c .before .if5 .taken) in
+    let at-size-bad = c .before .before in
+    let pooled = not-12 (at-size-bad .before .before .before .before .before .before .before .before) in
+    let named = not-7 (at-size-bad .before .before .before .before .before .before) in
+    let on = not-1 (at-size-bad .before .before .before) in
+    let free = not-2 (at-size-bad .before) in
+    let sized = rw (at-size-bad .size-bad .ensures) at (c .before .if5 .taken) in
     (rw (pooled, named, on, free, sized, c .refuse5 .ensures), rw (pooled, named, on, free, sized))
 
 returns-6 : tie.Need-returns-6
 unfolding transmitCall pick
 returns-6 c =
+    let start = c .before .before .before .before .before .before .before .before .before .before .before .before .before .before in
     let pooled = not-12 (c .before .before .before .before .before .before .before .before .before .before .before) in
     let named = not-7 (c .before .before .before .before .before .before .before .before .before) in
     let on = not-1 (c .before .before .before .before .before .before) in
     let free = not-2 (c .before .before .before .before) in
     let sized = not-3 (c .before .before) in
-    let short = lt-ltb 125 (c .before .before .before .before .before .before .before .before .before .before .before .before .before .before .args .frame-len) (c .before .if6 .taken) in
+    let short = lt-ltb 125 (start .args .frame-len) (c .before .if6 .taken) in
     (rw (pooled, named, on, free, sized, short, c .refuse6 .ensures), rw (pooled, named, on, free, sized, short))
 
 cast-place : tie.Need-cast-place
 cast-place c =
-    let x = c .before .before .before .before .before .before .before .before .before .before .before .before .before .args in
-    omega (arith, ltb-false 15 (x .buffer) (none-left (ltb 15 (x .buffer)) (ltb 160 (x .length)) (not-7 (c .before .before .before .before .before .before .before .before))))
+    let start = c .before .before .before .before .before .before .before .before .before .before .before .before .before in
+    let x = start .args in
+    omega (
+      arith,
+      ltb-false 15 (x .buffer)
+          (none-left (ltb 15 (x .buffer)) (ltb 160 (x .length)) (not-7 (c .before .before .before .before .before .before .before .before))),
+    )
 
 returns-7 : tie.Need-returns-7
 unfolding transmitCall pick
 returns-7 c =
-    let pooled = not-12 (c .before .before .before .before .before .before .before .before .before .before .before .before .before) in
-    let named = not-7 (c .before .before .before .before .before .before .before .before .before .before .before) in
-    let on = not-1 (c .before .before .before .before .before .before .before .before) in
-    let free = not-2 (c .before .before .before .before .before .before) in
-    let sized = not-3 (c .before .before .before .before) in
-    let short = not-4 (c .before .before .before) in
-    let absent = rw (c .before .before .record-has .ensures) at (c .before .if7 .taken) in
+    let at-record-has = c .before .before in
+    let pooled = not-12 (at-record-has .before .before .before .before .before .before .before .before .before .before .before) in
+    let named = not-7 (at-record-has .before .before .before .before .before .before .before .before .before) in
+    let on = not-1 (at-record-has .before .before .before .before .before .before) in
+    let free = not-2 (at-record-has .before .before .before .before) in
+    let sized = not-3 (at-record-has .before .before) in
+    let short = not-4 (at-record-has .before) in
+    let absent = rw (at-record-has .record-has .ensures) at (c .before .if7 .taken) in
     (rw (pooled, named, on, free, sized, short, absent, c .refuse7 .ensures), rw (pooled, named, on, free, sized, short, absent))
 
 cast-begin-transmit : tie.Need-cast-begin-transmit
 cast-begin-transmit c =
-    let x = c .before .before .before .before .before .before .before .before .before .before .before .before .before .before .before .before .before .before .before .args in
-    omega (arith, ltb-false 160 (x .length) (none-right (ltb 15 (x .buffer)) (ltb 160 (x .length)) (not-7 (c .before .before .before .before .before .before .before .before .before .before .before .before .before .before))))
+    let start = c .before .before .before .before .before .before .before .before .before .before .before .before .before .before .before .before .before .before .before in
+    let x = start .args in
+    omega (
+      arith,
+      ltb-false 160 (x .length)
+          (none-right (ltb 15 (x .buffer)) (ltb 160 (x .length))
+          (not-7 (c .before .before .before .before .before .before .before .before .before .before .before .before .before .before))),
+    )
 
 returns-8 : tie.Need-returns-8
 unfolding transmitCall pick
 returns-8 c =
-    let pooled = not-12 (c .before .before .before .before .before .before .before .before .before .before .before .before .before .before .before .before .before .before .before .before .before) in
-    let named = not-7 (c .before .before .before .before .before .before .before .before .before .before .before .before .before .before .before .before .before .before .before) in
-    let on = not-1 (c .before .before .before .before .before .before .before .before .before .before .before .before .before .before .before .before) in
-    let free = not-2 (c .before .before .before .before .before .before .before .before .before .before .before .before .before .before) in
-    let sized = not-3 (c .before .before .before .before .before .before .before .before .before .before .before .before) in
-    let short = not-4 (c .before .before .before .before .before .before .before .before .before .before .before) in
-    let absent = not-8 (c .before .before .before .before .before .before .before .before .before) in
-    (rw (pooled, named, on, free, sized, short, absent, c .before .before .finish .ensures .0, c .before .before .before .before .begin-transmit .ensures), rw (pooled, named, on, free, sized, short, absent, c .before .before .finish .ensures .1, c .before .before .before .before .begin-transmit .ensures, c .before .before .before .before .before .before .before .put-length .ensures))
+    let at-finish = c .before .before in
+    let at-begin-transmit = at-finish .before .before in
+    let at-put-length = at-begin-transmit .before .before .before in
+    let pooled = not-12 (at-put-length .before .before .before .before .before .before .before .before .before .before .before .before .before .before) in
+    let named = not-7 (at-put-length .before .before .before .before .before .before .before .before .before .before .before .before) in
+    let on = not-1 (at-put-length .before .before .before .before .before .before .before .before .before) in
+    let free = not-2 (at-put-length .before .before .before .before .before .before .before) in
+    let sized = not-3 (at-put-length .before .before .before .before .before) in
+    let short = not-4 (at-put-length .before .before .before .before) in
+    let absent = not-8 (at-put-length .before .before) in (
+      rw (
+        pooled,
+        named,
+        on,
+        free,
+        sized,
+        short,
+        absent,
+        at-finish .finish .ensures .0,
+        at-begin-transmit .begin-transmit .ensures,
+      ),
+      rw (pooled, named, on, free, sized, short, absent, at-finish .finish .ensures .1, at-begin-transmit .begin-transmit .ensures, at-put-length .put-length .ensures),
+    )
 
 pub transmit-spec : {M : Type 1} → statement M
 transmit-spec =

@@ -4,7 +4,7 @@ use Rattle.rf233.proofs.data.tx_busy.Statement.{statement}
 use Rattle.rf233.proofs.data.tx_busy.Tie as tie
 
 returns : tie.Need-returns
-returns c = rw (c .before .is-held2 .ensures, c .before .before .sending-slot .ensures, c .before .before .before .is-held .ensures)
+returns c = rw (c .before .is-held2 .ensures, c .before .before .tx-under-way .ensures, c .before .before .before .is-held .ensures)
 
 pub tx-busy-spec : {M : Type 1} → statement M
 tx-busy-spec =

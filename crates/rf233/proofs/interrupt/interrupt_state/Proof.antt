@@ -1,7 +1,11 @@
 -- `interrupt_state` meets its contract: each way is an end of the choice that its tests make. Assumes nothing.
 use borrow.Author.Needs.{needs}
-use Rattle.rf233.specs.Choice.{pick}
-use Rattle.rf233.specs.Completion.{interruptState}
+use mathlib.Core.Bool.{false}
+use mathlib.Core.List.{[], _∷_}
+use lib.Dec.{eqb}
+use Rattle.rf233.specs.Choice.{pick, oneOf}
+use Rattle.rf233.specs.Interrupt.{interruptState}
+use Rattle.rf233.proofs.Keys.{at-state, rest}
 use Rattle.rf233.proofs.interrupt.interrupt_state.Statement.{statement}
 use Rattle.rf233.proofs.interrupt.interrupt_state.Tie as tie
 
@@ -13,27 +17,71 @@ returns c =
 returns-2 : tie.Need-returns-2
 unfolding interruptState pick
 returns-2 c =
-    rw (rw (c .before .before .before .interrupt-included .ensures) at (c .before .before .if1 .left), rw (c .before .before .before .before .state-number .ensures, c .before .interrupt-included2 .ensures) at (c .if2 .taken))
+    let at = c .before .before in
+    let no-start = at .before .before in
+    rw (
+      rw (no-start .before .interrupt-included .ensures) at (no-start .if1 .left),
+      at .enum-told .given .1,
+      rw (c .before .interrupt-included2 .ensures) at (c .if2 .taken),
+    )
 
 returns-3 : tie.Need-returns-3
 unfolding interruptState pick
 returns-3 c =
-    rw (rw (c .before .before .before .before .before .interrupt-included .ensures) at (c .before .before .before .before .if1 .left), rw (c .before .before .before .before .before .before .state-number .ensures, c .before .before .before .interrupt-included2 .ensures) at (c .before .before .if2 .left), rw (c .before .before .before .before .before .before .state-number .ensures, c .before .interrupt-included3 .ensures) at (c .if3 .taken))
+    let at = c .before .before in
+    let no-start = at .before .before in
+    rw (
+      rw (no-start .before .interrupt-included .ensures) at (no-start .if1 .left),
+      at .enum-told2 .given .1,
+      rw (c .before .interrupt-included3 .ensures) at (c .if3 .taken),
+    )
 
 returns-4 : tie.Need-returns-4
 unfolding interruptState pick
 returns-4 c =
-    rw (rw (c .before .before .before .before .before .interrupt-included .ensures) at (c .before .before .before .before .if1 .left), rw (c .before .before .before .before .before .before .state-number .ensures, c .before .before .before .interrupt-included2 .ensures) at (c .before .before .if2 .left), rw (c .before .before .before .before .before .before .state-number .ensures, c .before .interrupt-included3 .ensures) at (c .if3 .left))
+    let at = c .before .before in
+    let no-start = at .before .before in
+    rw (
+      rw (no-start .before .interrupt-included .ensures) at (no-start .if1 .left),
+      at .enum-told .given .1,
+      rw (c .before .interrupt-included2 .ensures) at (c .if2 .left),
+    )
+
+returns-5 : tie.Need-returns-5
+unfolding interruptState pick
+returns-5 c =
+    let at = c .before .before in
+    let no-start = at .before .before in
+    rw (
+      rw (no-start .before .interrupt-included .ensures) at (no-start .if1 .left),
+      at .enum-told2 .given .1,
+      rw (c .before .interrupt-included3 .ensures) at (c .if3 .left),
+    )
+
+returns-6 : tie.Need-returns-6
+unfolding interruptState pick
+returns-6 c =
+    let no-start = c .before in
+    let s = no-start .before .before .args .state in
+    let keys = rest (oneOf (27 ∷ 40 ∷ [])) in
+    rw (
+      rw (no-start .before .interrupt-included .ensures) at (no-start .if1 .left),
+      at-state (λ n. eqb n 27) false keys s tt (c .match .keys3),
+      at-state (λ n. eqb n 40) false keys s tt (c .match .keys3),
+    )
 
 pub interrupt-state-spec : {M : Type 1} → statement M
 interrupt-state-spec =
     tie.close
     (tie.spec
     (λ c κs. search needs)
-    (λ c κs. search needs)
     returns
+    (λ c. search needs)
     (λ c κs. search needs)
     returns-2
+    (λ c. search needs)
     (λ c κs. search needs)
     returns-3
-    returns-4)
+    returns-4
+    returns-5
+    returns-6)

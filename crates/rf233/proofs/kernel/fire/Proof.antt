@@ -1,7 +1,7 @@
 -- `fire` meets its contract: refusal 12, or the step. Assumes nothing.
 use borrow.Author.Needs.{needs}
 use Rattle.rf233.specs.Choice.{pick}
-use Rattle.rf233.specs.Calls.{firedCall}
+use Rattle.rf233.specs.Kernel.{firedCall}
 use Rattle.rf233.proofs.kernel.fire.Statement.{statement}
 use Rattle.rf233.proofs.kernel.fire.Tie as tie
 
@@ -14,10 +14,22 @@ returns c = (
 
 returns-2 : tie.Need-returns-2
 unfolding firedCall pick
-returns-2 c = (
-  rw (rw (c .before .before .before .before .before .before .pool-fault .ensures) at (c .before .before .before .before .before .if1 .left), c .before .before .finish .ensures .0, c .before .before .before .before .handle-interrupt .ensures),
-  rw (rw (c .before .before .before .before .before .before .pool-fault .ensures) at (c .before .before .before .before .before .if1 .left), c .before .before .finish .ensures .1, c .before .before .before .before .handle-interrupt .ensures),
-)
+returns-2 c =
+    let at-finish = c .before .before in
+    let at-handle-interrupt = at-finish .before .before in
+    let at-if1 = at-handle-interrupt .before in
+    let at-pool-fault = at-if1 .before in (
+      rw (
+        rw (at-pool-fault .pool-fault .ensures) at (at-if1 .if1 .left),
+        at-finish .finish .ensures .0,
+        at-handle-interrupt .handle-interrupt .ensures,
+      ),
+      rw (
+        rw (at-pool-fault .pool-fault .ensures) at (at-if1 .if1 .left),
+        at-finish .finish .ensures .1,
+        at-handle-interrupt .handle-interrupt .ensures,
+      ),
+    )
 
 pub fire-spec : {M : Type 1} → statement M
 fire-spec =

@@ -1,13 +1,15 @@
--- `read_write_done` meets its contract: the refusals in order, then the bytes are copied, the step is taken and its command bytes are written. What 12 does not describe reads into a buffer of the pool, and no more bytes than a buffer has. Assumes nothing.
+-- `read_write_done` meets its contract: the refusals in order, then the bytes are copied, the step is taken and its command bytes are
+-- written. What 12 does not describe reads into a buffer of the pool, and no more bytes than a buffer has. Assumes nothing.
 use borrow.Author.Needs.{needs}
 use native.Mathlib.Omega.{arith}
 use lib.Dec.{ltb}
 use borrow.Author.Tests.{ltb-false}
 use lib.ListN.{length}
 use Rattle.rf233.specs.Choice.{pick}
-use Rattle.rf233.specs.Calls.{completionCall, completing}
+use Rattle.rf233.specs.Kernel.{completionCall, completing}
 use Rattle.rf233.specs.Pool.{shorter}
-use Rattle.rf233.proofs.Sound.{none-left, none-right, read-fits, shorter-fits, pool-right, driver-right}
+use Rattle.laws.proofs.Logic.{none-left, none-right}
+use Rattle.rf233.proofs.Sound.{read-fits, shorter-fits, pool-right, driver-right}
 use Rattle.rf233.proofs.kernel.read_write_done.Statement.{statement}
 use Rattle.rf233.proofs.kernel.read_write_done.Tie as tie
 
@@ -20,41 +22,74 @@ returns c = (
 
 returns-2 : tie.Need-returns-2
 unfolding completionCall pick
-returns-2 c = (
-  rw (rw (c .before .before .before .before .before .pool-fault .ensures) at (c .before .before .before .before .if1 .left), rw (c .before .before .is-idle .ensures) at (c .before .if2 .taken), c .refuse2 .ensures),
-  rw (rw (c .before .before .before .before .before .pool-fault .ensures) at (c .before .before .before .before .if1 .left), rw (c .before .before .is-idle .ensures) at (c .before .if2 .taken)),
-)
+returns-2 c =
+    let at-is-idle = c .before .before in
+    let at-if1 = at-is-idle .before .before in
+    let at-pool-fault = at-if1 .before in (
+      rw (
+        rw (at-pool-fault .pool-fault .ensures) at (at-if1 .if1 .left),
+        rw (at-is-idle .is-idle .ensures) at (c .before .if2 .taken),
+        c .refuse2 .ensures,
+      ),
+      rw (rw (at-pool-fault .pool-fault .ensures) at (at-if1 .if1 .left), rw (at-is-idle .is-idle .ensures) at (c .before .if2 .taken)),
+    )
 
 returns-3 : tie.Need-returns-3
 unfolding completionCall pick
-returns-3 c = (
-  rw (rw (c .before .before .before .before .before .before .before .pool-fault .ensures) at (c .before .before .before .before .before .before .if1 .left), rw (c .before .before .before .before .is-idle .ensures) at (c .before .before .before .if2 .left), rw (c .before .before .shorter-length .ensures) at (c .before .if3 .taken), c .refuse3 .ensures),
-  rw (rw (c .before .before .before .before .before .before .before .pool-fault .ensures) at (c .before .before .before .before .before .before .if1 .left), rw (c .before .before .before .before .is-idle .ensures) at (c .before .before .before .if2 .left), rw (c .before .before .shorter-length .ensures) at (c .before .if3 .taken)),
-)
+returns-3 c =
+    let at-shorter-length = c .before .before in
+    let at-if2 = at-shorter-length .before in
+    let at-is-idle = at-if2 .before in
+    let at-if1 = at-is-idle .before .before in
+    let at-pool-fault = at-if1 .before in (
+      rw (
+        rw (at-pool-fault .pool-fault .ensures) at (at-if1 .if1 .left),
+        rw (at-is-idle .is-idle .ensures) at (at-if2 .if2 .left),
+        rw (at-shorter-length .shorter-length .ensures) at (c .before .if3 .taken),
+        c .refuse3 .ensures,
+      ),
+      rw (
+        rw (at-pool-fault .pool-fault .ensures) at (at-if1 .if1 .left),
+        rw (at-is-idle .is-idle .ensures) at (at-if2 .if2 .left),
+        rw (at-shorter-length .shorter-length .ensures) at (c .before .if3 .taken),
+      ),
+    )
 
 copy-arrived-requires : tie.Need-copy-arrived-requires
 copy-arrived-requires c κs =
     let x = c .before .before .before .before .before .before .before .before .before .before .before .args in
     let n = length (x .arrived .now) in
     let counted = rw (c .before .before .before .shorter-length .ensures) at (c .before .before .if3 .left) in
-    let right = rw (c .before .before .before .before .before .before .before .before .pool-fault .ensures) at (c .before .before .before .before .before .before .before .if1 .left) in
+    let right = rw (c .before .before .before .before .before .before .before .before .pool-fault .ensures) at
+    (c .before .before .before .before .before .before .before .if1 .left) in
     let sound = driver-right (x .d) (x .pool .now) right in (
-      omega (arith, ltb-false (shorter (x .d .buffers)) n (none-right (ltb n 2) (ltb (shorter (x .d .buffers)) n) counted), shorter-fits (x .d) sound),
+      omega (
+        arith,
+        ltb-false (shorter (x .d .buffers)) n (none-right (ltb n 2) (ltb (shorter (x .d .buffers)) n) counted),
+        shorter-fits
+            (x .d) sound,
+      ),
       omega (arith, c .read-buffer .ensures, read-fits (x .d) sound, pool-right (x .d) (x .pool .now) right),
     )
 
 shared-slice-read-status-of : tie.Need-shared-slice-read-status-of
 shared-slice-read-status-of c =
-    let x = c .before .before .before .before .before .before .before .before .before .before .before .before .before .before .before .before .before .args in
+    let at-if3 = c .before .before .before .before .before .before .before .before in
+    let at-shorter-length = at-if3 .before in
+    let start = at-shorter-length .before .before .before .before .before .before .before .before in
+    let x = start .args in
     let n = length (x .arrived .now) in
-    let counted = rw (c .before .before .before .before .before .before .before .before .before .shorter-length .ensures) at (c .before .before .before .before .before .before .before .before .if3 .left) in
+    let counted = rw (at-shorter-length .shorter-length .ensures) at (at-if3 .if3 .left) in
     omega (arith, ltb-false n 2 (none-left (ltb n 2) (ltb (shorter (x .d .buffers)) n) counted))
 
 shared-slice-read-t28 : tie.Need-shared-slice-read-t28
 shared-slice-read-t28 c =
-    let x = c .before .before .before .before .before .before .before .before .before .before .before .before .before .before .before .before .before .before .before .args in
+    let at-if3 = c .before .before .before .before .before .before .before .before .before .before in
+    let at-shorter-length = at-if3 .before in
+    let start = at-shorter-length .before .before .before .before .before .before .before .before in
+    let x = start .args in
     let n = length (x .arrived .now) in
-    let counted = rw (c .before .before .before .before .before .before .before .before .before .before .before .shorter-length .ensures) at (c .before .before .before .before .before .before .before .before .before .before .if3 .left) in
+    let counted = rw (at-shorter-length .shorter-length .ensures) at (at-if3 .if3 .left) in
     omega (arith, ltb-false n 2 (none-left (ltb n 2) (ltb (shorter (x .d .buffers)) n) counted))
 
 same-length : tie.Need-same-length
@@ -62,10 +97,42 @@ same-length c = search needs
 
 returns-4 : tie.Need-returns-4
 unfolding completionCall completing pick
-returns-4 c = (
-  rw (rw (c .before .before .before .before .before .before .before .before .before .before .before .before .before .before .before .before .before .before .before .before .before .pool-fault .ensures) at (c .before .before .before .before .before .before .before .before .before .before .before .before .before .before .before .before .before .before .before .before .if1 .left), rw (c .before .before .before .before .before .before .before .before .before .before .before .before .before .before .before .before .before .before .is-idle .ensures) at (c .before .before .before .before .before .before .before .before .before .before .before .before .before .before .before .before .before .if2 .left), rw (c .before .before .before .before .before .before .before .before .before .before .before .before .before .before .before .before .shorter-length .ensures) at (c .before .before .before .before .before .before .before .before .before .before .before .before .before .before .before .if3 .left), c .before .before .finish .ensures .0, c .before .before .before .before .complete .ensures, c .before .before .before .before .before .before .status-of .ensures, c .before .before .before .before .before .before .before .before .length-byte .ensures, c .before .before .before .before .before .before .before .before .before .before .before .before .copy-arrived .ensures, c .before .before .before .before .before .before .before .before .before .before .before .before .before .read-buffer .ensures),
-  rw (rw (c .before .before .before .before .before .before .before .before .before .before .before .before .before .before .before .before .before .before .before .before .before .pool-fault .ensures) at (c .before .before .before .before .before .before .before .before .before .before .before .before .before .before .before .before .before .before .before .before .if1 .left), rw (c .before .before .before .before .before .before .before .before .before .before .before .before .before .before .before .before .before .before .is-idle .ensures) at (c .before .before .before .before .before .before .before .before .before .before .before .before .before .before .before .before .before .if2 .left), rw (c .before .before .before .before .before .before .before .before .before .before .before .before .before .before .before .before .shorter-length .ensures) at (c .before .before .before .before .before .before .before .before .before .before .before .before .before .before .before .if3 .left), c .before .before .finish .ensures .1, c .before .before .before .before .complete .ensures, c .before .before .before .before .before .before .status-of .ensures, c .before .before .before .before .before .before .before .before .length-byte .ensures, c .before .before .before .before .before .before .before .before .before .before .before .before .copy-arrived .ensures, c .before .before .before .before .before .before .before .before .before .before .before .before .before .read-buffer .ensures),
-)
+returns-4 c =
+    let at-finish = c .before .before in
+    let at-complete = at-finish .before .before in
+    let at-status-of = at-complete .before .before in
+    let at-length-byte = at-status-of .before .before in
+    let at-copy-arrived = at-length-byte .before .before .before .before in
+    let at-read-buffer = at-copy-arrived .before in
+    let at-if3 = at-read-buffer .before .before in
+    let at-shorter-length = at-if3 .before in
+    let at-if2 = at-shorter-length .before in
+    let at-is-idle = at-if2 .before in
+    let at-if1 = at-is-idle .before .before in
+    let at-pool-fault = at-if1 .before in (
+      rw (
+        rw (at-pool-fault .pool-fault .ensures) at (at-if1 .if1 .left),
+        rw (at-is-idle .is-idle .ensures) at (at-if2 .if2 .left),
+        rw (at-shorter-length .shorter-length .ensures) at (at-if3 .if3 .left),
+        at-finish .finish .ensures .0,
+        at-complete .complete .ensures,
+        at-status-of .status-of .ensures,
+        at-length-byte .length-byte .ensures,
+        at-copy-arrived .copy-arrived .ensures,
+        at-read-buffer .read-buffer .ensures,
+      ),
+      rw (
+        rw (at-pool-fault .pool-fault .ensures) at (at-if1 .if1 .left),
+        rw (at-is-idle .is-idle .ensures) at (at-if2 .if2 .left),
+        rw (at-shorter-length .shorter-length .ensures) at (at-if3 .if3 .left),
+        at-finish .finish .ensures .1,
+        at-complete .complete .ensures,
+        at-status-of .status-of .ensures,
+        at-length-byte .length-byte .ensures,
+        at-copy-arrived .copy-arrived .ensures,
+        at-read-buffer .read-buffer .ensures,
+      ),
+    )
 
 pub read-write-done-spec : {M : Type 1} → statement M
 read-write-done-spec =

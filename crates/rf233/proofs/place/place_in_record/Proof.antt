@@ -37,13 +37,19 @@ returns-3 c =
 returns-4 : tie.Need-returns-4
 unfolding placeOf
 returns-4 c =
+    let at-if3 = c .before .before in
+    let at-slot-has2 = at-if3 .before in
+    let at-if2 = at-slot-has2 .before in
+    let at-slot-has = at-if2 .before in
+    let at-if1 = at-slot-has .before in
+    let at-own-has = at-if1 .before in
     rw (
-      ← (c .before .before .before .before .before .before .before .own-has .ensures),
-      c .before .before .before .before .before .before .if1 .left,
-      ← (c .before .before .before .before .before .slot-has .ensures),
-      c .before .before .before .before .if2 .left,
-      ← (c .before .before .before .slot-has2 .ensures),
-      c .before .before .if3 .left,
+      ← (at-own-has .own-has .ensures),
+      at-if1 .if1 .left,
+      ← (at-slot-has .slot-has .ensures),
+      at-if2 .if2 .left,
+      ← (at-slot-has2 .slot-has2 .ensures),
+      at-if3 .if3 .left,
       ← (c .before .under-has .ensures),
       c .if4 .taken,
     )
@@ -51,16 +57,24 @@ returns-4 c =
 returns-5 : tie.Need-returns-5
 unfolding placeOf
 returns-5 c =
+    let at-if3 = c .before .before in
+    let at-slot-has2 = at-if3 .before in
+    let at-if2 = at-slot-has2 .before in
+    let at-slot-has = at-if2 .before in
+    let at-if1 = at-slot-has .before in
+    let at-own-has = at-if1 .before in
     rw (
-      ← (c .before .before .before .before .before .before .before .own-has .ensures),
-      c .before .before .before .before .before .before .if1 .left,
-      ← (c .before .before .before .before .before .slot-has .ensures),
-      c .before .before .before .before .if2 .left,
-      ← (c .before .before .before .slot-has2 .ensures),
-      c .before .before .if3 .left,
+      ← (at-own-has .own-has .ensures),
+      at-if1 .if1 .left,
+      ← (at-slot-has .slot-has .ensures),
+      at-if2 .if2 .left,
+      ← (at-slot-has2 .slot-has2 .ensures),
+      at-if3 .if3 .left,
       ← (c .before .under-has .ensures),
       c .if4 .left,
     )
 
 pub place-in-record-spec : {M : Type 1} → statement M
-place-in-record-spec = tie.close (tie.spec (λ c κs. search needs) returns (λ c κs. search needs) returns-2 (λ c κs. search needs) returns-3 (λ c κs. search needs) returns-4 returns-5)
+place-in-record-spec =
+    tie.close (tie.spec (λ c κs. search needs) returns (λ c κs. search needs) returns-2 (λ c κs. search needs) returns-3
+    (λ c κs. search needs) returns-4 returns-5)

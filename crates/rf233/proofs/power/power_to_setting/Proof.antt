@@ -60,14 +60,16 @@ less-than q xs k p f h = unless (leZ q p) refl
     unless true e = absurd (true≢false (sym (served-after q xs k p f e) ∙ h))
     unless false e = e
 
-at-place : (q : ℤ) (xs : List Serves) (k : ℕ) (p : ℤ) → Falling q xs → passed xs k p ≡ false → serves xs k p ≡ true → setting xs k ≡ firstServing xs p
+at-place : (q : ℤ) (xs : List Serves) (k : ℕ) (p : ℤ) → Falling q xs → passed xs k p ≡ false → serves xs k p ≡ true
+    → setting xs k ≡ firstServing xs p
 at-place q [] k p f h s = refl
 at-place q (from r n ∷ more) zero p f h s = rw s
 at-place q (from r n ∷ more) (suc zero) p f h s = rw h (at-place r more zero p (f .1) refl s)
 at-place q (from r n ∷ more) (suc (suc k)) p f h s = rw (less-than r more k p (f .1) h) (at-place r more (suc k) p (f .1) h s)
 
 -- The same of the settings in use, where the tests have read the wish back from its bits.
-setting-at : (k : ℕ) {p : ℤ} → SFits w8 p → passed served k (toZ w8 (ofZ w8 p)) ≡ false → serves served k (toZ w8 (ofZ w8 p)) ≡ true → setting served k ≡ powerToSetting p
+setting-at : (k : ℕ) {p : ℤ} → SFits w8 p → passed served k (toZ w8 (ofZ w8 p)) ≡ false → serves served k (toZ w8 (ofZ w8 p)) ≡ true
+    → setting served k ≡ powerToSetting p
 setting-at k fits h s = at-place (pos 4) served k _ (search) h s ∙ ap powerToSetting (toZ-ofZ fits)
 
 pub power-to-setting-spec : {M : Type 1} → statement M
@@ -81,9 +83,15 @@ power-to-setting-spec =
     (λ c. setting-at 4 (c .before .before .before .before .before .fits .power) (c .before .if4 .left) (c .if5 .taken))
     (λ c. setting-at 5 (c .before .before .before .before .before .before .fits .power) (c .before .if5 .left) (c .if6 .taken))
     (λ c. setting-at 6 (c .before .before .before .before .before .before .before .fits .power) (c .before .if6 .left) (c .if7 .taken))
-    (λ c. setting-at 7 (c .before .before .before .before .before .before .before .before .fits .power) (c .before .if7 .left) (c .if8 .taken))
-    (λ c. setting-at 8 (c .before .before .before .before .before .before .before .before .before .fits .power) (c .before .if8 .left) (c .if9 .taken))
-    (λ c. setting-at 9 (c .before .before .before .before .before .before .before .before .before .before .fits .power) (c .before .if9 .left) (c .if10 .taken))
-    (λ c. setting-at 10 (c .before .before .before .before .before .before .before .before .before .before .before .fits .power) (c .before .if10 .left) (c .if11 .taken))
-    (λ c. setting-at 11 (c .before .before .before .before .before .before .before .before .before .before .before .before .fits .power) (c .before .if11 .left) (c .if12 .taken))
-    (λ c. setting-at 12 (c .before .before .before .before .before .before .before .before .before .before .before .before .fits .power) (c .if12 .left) refl))
+    (λ c. setting-at 7 (c .before .before .before .before .before .before .before .before .fits .power) (c .before .if7 .left)
+    (c .if8 .taken))
+    (λ c. setting-at 8 (c .before .before .before .before .before .before .before .before .before .fits .power) (c .before .if8 .left)
+    (c .if9 .taken))
+    (λ c. setting-at 9 (c .before .before .before .before .before .before .before .before .before .before .fits .power)
+    (c .before .if9 .left) (c .if10 .taken))
+    (λ c. setting-at 10 (c .before .before .before .before .before .before .before .before .before .before .before .fits .power)
+    (c .before .if10 .left) (c .if11 .taken))
+    (λ c. setting-at 11 (c .before .before .before .before .before .before .before .before .before .before .before .before .fits .power)
+    (c .before .if11 .left) (c .if12 .taken))
+    (λ c. setting-at 12 (c .before .before .before .before .before .before .before .before .before .before .before .before .fits .power)
+    (c .if12 .left) refl))

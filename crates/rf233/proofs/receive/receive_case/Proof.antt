@@ -1,8 +1,8 @@
 -- `receive_case` meets its contract: each arm is its state's case. The last is of states that the call rules out. Assumes nothing.
 use borrow.Author.Needs.{needs}
 use mathlib.Core.List.{[], _∷_}
-use Rattle.rf233.specs.Rows.{eval, trees, treeAt}
-use Rattle.rf233.specs.Engine.{caseOf, perform}
+use Rattle.rf233.specs.Rows.{eval}
+use Rattle.rf233.specs.Case.{trees, treeAt, caseOf, perform}
 use Rattle.rf233.proofs.Keys.{unreached}
 use Rattle.rf233.proofs.receive.receive_case.Statement.{statement}
 use Rattle.rf233.proofs.receive.receive_case.Tie as tie
@@ -34,4 +34,5 @@ receive-case-spec =
     returns-4
     (λ c. search needs)
     (λ c. search needs)
-    (λ c. unreached (60 ∷ 62 ∷ 64 ∷ 66 ∷ 67 ∷ 68 ∷ []) (c .before .before .args .d .state) tt (c .before .before .pre) (c .before .match .keys7)))
+    (λ c. unreached (60 ∷ 62 ∷ 64 ∷ 66 ∷ 67 ∷ 68 ∷ []) (c .before .before .args .d .state) tt (c .before .before .pre)
+    (c .before .match .keys7)))

@@ -2,9 +2,9 @@
 use borrow.Author.Needs.{needs}
 use mathlib.Core.Logic.{⊎-elim}
 use Rattle.rf233.specs.Choice.{pick}
-use Rattle.rf233.specs.Rows.{eval, trees, treeAt}
-use Rattle.rf233.specs.Engine.{caseOf, perform}
-use Rattle.rf233.specs.Driver.Flag.{sending}
+use Rattle.rf233.specs.Rows.{eval}
+use Rattle.rf233.specs.Case.{trees, treeAt, caseOf, perform}
+use Rattle.rf233.specs.Driver.Flag.{transmitting}
 use Rattle.rf233.proofs.Conditions.{length-in, length-below, length-above, flag-is, by-flag}
 use Rattle.rf233.proofs.Onward.{onward-send, onward-ready}
 use Rattle.rf233.proofs.receive.rx_reading_frame_len_done.Statement.{statement}
@@ -13,8 +13,20 @@ use Rattle.rf233.proofs.receive.rx_reading_frame_len_done.Tie as tie
 returns : tie.Need-returns
 unfolding caseOf treeAt trees eval perform pick
 returns c =
-    let x = c .before .before .before .before .before .before .args in
-    rw (c .before .before .before .before .before .before .pre, length-in (x .a) (x .d) (c .before .before .before .before .before .if1 .left) (c .before .before .before .before .if2 .taken), c .step-of .ensures, c .before .no-actions .ensures, c .before .before .frame-read .ensures, c .before .before .before .with-state .ensures)
+    let at-frame-read = c .before .before in
+    let at-with-state = at-frame-read .before in
+    let at-if2 = at-with-state .before in
+    let at-if1 = at-if2 .before in
+    let start = at-if1 .before in
+    let x = start .args in
+    rw (
+      start .pre,
+      length-in (x .a) (x .d) (at-if1 .if1 .left) (at-if2 .if2 .taken),
+      c .step-of .ensures,
+      c .before .no-actions .ensures,
+      at-frame-read .frame-read .ensures,
+      at-with-state .with-state .ensures,
+    )
 
 returns-2 : tie.Need-returns-2
 unfolding caseOf treeAt trees eval perform pick
@@ -22,7 +34,8 @@ returns-2 c =
     let x = c .before .before .args in
     let out = ⊎-elim (λ p. length-below (x .a) (x .d) (p .taken)) (λ p. length-above (x .a) (x .d) (p .1 .left)) (c .before .if1 .came) in
     rw (c .before .before .pre, out, c .onward-read .ensures)
-    (by-flag (x .d .flags .transmitting) (λ e. rw (flag-is (x .a) (x .d) sending e, onward-send)) (λ e. rw (flag-is (x .a) (x .d) sending e, onward-ready)))
+    (by-flag (x .d .flags .transmitting) (λ e. rw (flag-is (x .a) (x .d) transmitting e, onward-send))
+    (λ e. rw (flag-is (x .a) (x .d) transmitting e, onward-ready)))
 
 pub rx-reading-frame-len-done-spec : {M : Type 1} → statement M
 rx-reading-frame-len-done-spec =

@@ -1,14 +1,24 @@
 -- `rx_start_reading` meets its contract: the row of 62. Assumes nothing.
 use borrow.Author.Needs.{needs}
 use Rattle.rf233.specs.Choice.{pick}
-use Rattle.rf233.specs.Rows.{eval, trees, treeAt}
-use Rattle.rf233.specs.Engine.{caseOf, perform}
+use Rattle.rf233.specs.Rows.{eval}
+use Rattle.rf233.specs.Case.{trees, treeAt, caseOf, perform}
 use Rattle.rf233.proofs.receive.rx_start_reading.Statement.{statement}
 use Rattle.rf233.proofs.receive.rx_start_reading.Tie as tie
 
 returns : tie.Need-returns
 unfolding caseOf treeAt trees eval perform pick
-returns c = rw (c .before .before .before .before .pre, c .step-of .ensures, c .before .no-actions .ensures, c .before .before .frame-read .ensures, c .before .before .before .with-state .ensures)
+returns c =
+    let at-frame-read = c .before .before in
+    let at-with-state = at-frame-read .before in
+    let start = at-with-state .before in
+    rw (
+      start .pre,
+      c .step-of .ensures,
+      c .before .no-actions .ensures,
+      at-frame-read .frame-read .ensures,
+      at-with-state .with-state .ensures,
+    )
 
 pub rx-start-reading-spec : {M : Type 1} → statement M
 rx-start-reading-spec =

@@ -1,8 +1,8 @@
 -- `rx_turning_off` meets its contract: the row of 60. Assumes nothing.
 use borrow.Author.Needs.{needs}
 use Rattle.rf233.specs.Choice.{pick}
-use Rattle.rf233.specs.Rows.{eval, trees, treeAt}
-use Rattle.rf233.specs.Engine.{caseOf, perform}
+use Rattle.rf233.specs.Rows.{eval}
+use Rattle.rf233.specs.Case.{trees, treeAt, caseOf, perform}
 use Rattle.rf233.proofs.receive.rx_turning_off.Statement.{statement}
 use Rattle.rf233.proofs.receive.rx_turning_off.Tie as tie
 

@@ -1,7 +1,7 @@
 -- `sleep_wake` meets its contract: the leaf of 32. Assumes nothing.
 use borrow.Author.Needs.{needs}
-use Rattle.rf233.specs.Rows.{eval, trees, treeAt}
-use Rattle.rf233.specs.Engine.{caseOf, perform}
+use Rattle.rf233.specs.Rows.{eval}
+use Rattle.rf233.specs.Case.{trees, treeAt, caseOf, perform}
 use Rattle.rf233.proofs.sleep.sleep_wake.Statement.{statement}
 use Rattle.rf233.proofs.sleep.sleep_wake.Tie as tie
 

@@ -8,12 +8,28 @@ use Rattle.rf233.proofs.step.register_step.Tie as tie
 returns : tie.Need-returns
 unfolding registerTransfer pick
 returns c =
-    rw (rw (c .before .before .before .before .before .before .before .before .before .is-idle .ensures) at (c .before .before .before .before .before .if1 .taken), c .step-of .ensures, c .before .no-actions .ensures, c .before .before .begin .ensures, c .before .before .before .transfer-of .ensures, c .before .before .before .before .with-under .ensures, c .before .before .before .before .before .before .with-state .ensures)
+    let at-begin = c .before .before in
+    let at-transfer-of = at-begin .before in
+    let at-with-under = at-transfer-of .before in
+    let at-if1 = at-with-under .before in
+    let at-with-state = at-if1 .before in
+    let at-is-idle = at-with-state .before .before .before in
+    rw (
+      rw (at-is-idle .is-idle .ensures) at (at-if1 .if1 .taken),
+      c .step-of .ensures,
+      c .before .no-actions .ensures,
+      at-begin .begin .ensures,
+      at-transfer-of .transfer-of .ensures,
+      at-with-under .with-under .ensures,
+      at-with-state .with-state .ensures,
+    )
 
 returns-2 : tie.Need-returns-2
 unfolding registerTransfer pick
 returns-2 c =
-    rw (rw (c .before .before .before .before .before .is-idle .ensures) at (c .before .if1 .left), c .stay .ensures, c .before .before .with-state .ensures)
+    let at-with-state = c .before .before in
+    let at-is-idle = at-with-state .before .before .before in
+    rw (rw (at-is-idle .is-idle .ensures) at (c .before .if1 .left), c .stay .ensures, at-with-state .with-state .ensures)
 
 pub register-step-spec : {M : Type 1} → statement M
 register-step-spec =

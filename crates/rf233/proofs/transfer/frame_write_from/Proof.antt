@@ -8,13 +8,18 @@ use Rattle.rf233.proofs.transfer.frame_write_from.Tie as tie
 returns : tie.Need-returns
 unfolding frameWriteFrom pick
 returns c =
+    let at-frame-write-command = c .before .before in
+    let at-with-tx-buf = at-frame-write-command .before in
+    let at-with-under = at-with-tx-buf .before in
+    let at-if1 = at-with-under .before in
+    let at-is-idle = at-if1 .before .before in
     rw (
-      rw (c .before .before .before .before .before .before .before .is-idle .ensures) at (c .before .before .before .before .before .if1 .taken),
+      rw (at-is-idle .is-idle .ensures) at (at-if1 .if1 .taken),
       c .begin .ensures,
       c .before .transfer-of .ensures,
-      c .before .before .frame-write-command .ensures,
-      c .before .before .before .with-tx-buf .ensures,
-      c .before .before .before .before .with-under .ensures,
+      at-frame-write-command .frame-write-command .ensures,
+      at-with-tx-buf .with-tx-buf .ensures,
+      at-with-under .with-under .ensures,
     )
 
 returns-2 : tie.Need-returns-2

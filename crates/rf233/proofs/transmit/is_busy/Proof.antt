@@ -5,7 +5,14 @@ use Rattle.rf233.proofs.transmit.is_busy.Statement.{statement}
 use Rattle.rf233.proofs.transmit.is_busy.Tie as tie
 
 returns : tie.Need-returns
-returns c = rw (c .before .before .external-state-number .ensures, c .before .external-state-number2 .ensures, c .external-state-number3 .ensures, or-assoc, or-false)
+returns c =
+    rw (
+      c .before .before .external-state-number .ensures,
+      c .before .external-state-number2 .ensures,
+      c .external-state-number3 .ensures,
+      or-assoc,
+      or-false,
+    )
 
 pub is-busy-spec : {M : Type 1} → statement M
 is-busy-spec =

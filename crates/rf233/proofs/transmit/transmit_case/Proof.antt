@@ -1,8 +1,8 @@
 -- `transmit_case` meets its contract: each arm is its state's case. The last is of states that the call rules out. Assumes nothing.
 use borrow.Author.Needs.{needs}
 use mathlib.Core.List.{[], _∷_}
-use Rattle.rf233.specs.Rows.{eval, trees, treeAt}
-use Rattle.rf233.specs.Engine.{caseOf, perform}
+use Rattle.rf233.specs.Rows.{eval}
+use Rattle.rf233.specs.Case.{trees, treeAt, caseOf, perform}
 use Rattle.rf233.proofs.Keys.{unreached}
 use Rattle.rf233.proofs.transmit.transmit_case.Statement.{statement}
 use Rattle.rf233.proofs.transmit.transmit_case.Tie as tie
@@ -59,4 +59,5 @@ transmit-case-spec =
     returns-7
     returns-8
     (λ c. search needs)
-    (λ c. unreached (33 ∷ 35 ∷ 36 ∷ 37 ∷ 38 ∷ 39 ∷ 41 ∷ 42 ∷ 43 ∷ []) (c .before .before .args .d .state) tt (c .before .before .pre) (c .before .match .keys10)))
+    (λ c. unreached (33 ∷ 35 ∷ 36 ∷ 37 ∷ 38 ∷ 39 ∷ 41 ∷ 42 ∷ 43 ∷ []) (c .before .before .args .d .state) tt (c .before .before .pre)
+    (c .before .match .keys10)))

@@ -2,8 +2,8 @@
 use borrow.Author.Needs.{needs}
 use mathlib.Core.List.{[], _∷_}
 use Rattle.rf233.specs.Choice.{pick}
-use Rattle.rf233.specs.Rows.{eval, trees, treeAt}
-use Rattle.rf233.specs.Engine.{caseOf, perform}
+use Rattle.rf233.specs.Rows.{eval}
+use Rattle.rf233.specs.Case.{trees, treeAt, caseOf, perform}
 use Rattle.rf233.proofs.Conditions.{status-is}
 use Rattle.rf233.proofs.transmit.tx_status_precheck1.Statement.{statement}
 use Rattle.rf233.proofs.transmit.tx_status_precheck1.Tie as tie
@@ -11,14 +11,34 @@ use Rattle.rf233.proofs.transmit.tx_status_precheck1.Tie as tie
 returns : tie.Need-returns
 unfolding caseOf treeAt trees eval perform pick
 returns c =
-    let x = c .before .before .before .before .args in
-    rw (c .before .before .before .before .pre, status-is (x .a) (x .d) (0x11 ∷ 0x12 ∷ 0x01 ∷ []) (rw (c .before .before .before .is-busy .ensures) at (c .before .before .if1 .taken)), c .stay .ensures, c .before .with-state .ensures)
+    let at-if1 = c .before .before in
+    let at-is-busy = at-if1 .before in
+    let start = at-is-busy .before in
+    let x = start .args in
+    rw (
+      start .pre,
+      status-is (x .a) (x .d) (0x11 ∷ 0x12 ∷ 0x01 ∷ []) (rw (at-is-busy .is-busy .ensures) at (at-if1 .if1 .taken)),
+      c .stay .ensures,
+      c .before .with-state .ensures,
+    )
 
 returns-2 : tie.Need-returns-2
 unfolding caseOf treeAt trees eval perform pick
 returns-2 c =
-    let x = c .before .before .before .before .before .before .args in
-    rw (c .before .before .before .before .before .before .pre, status-is (x .a) (x .d) (0x11 ∷ 0x12 ∷ 0x01 ∷ []) (rw (c .before .before .before .before .before .is-busy .ensures) at (c .before .before .before .before .if1 .left)), c .step-of .ensures, c .before .no-actions .ensures, c .before .before .frame-write .ensures, c .before .before .before .with-state2 .ensures)
+    let at-frame-write = c .before .before in
+    let at-with-state2 = at-frame-write .before in
+    let at-if1 = at-with-state2 .before in
+    let at-is-busy = at-if1 .before in
+    let start = at-is-busy .before in
+    let x = start .args in
+    rw (
+      start .pre,
+      status-is (x .a) (x .d) (0x11 ∷ 0x12 ∷ 0x01 ∷ []) (rw (at-is-busy .is-busy .ensures) at (at-if1 .if1 .left)),
+      c .step-of .ensures,
+      c .before .no-actions .ensures,
+      at-frame-write .frame-write .ensures,
+      at-with-state2 .with-state2 .ensures,
+    )
 
 pub tx-status-precheck1-spec : {M : Type 1} → statement M
 tx-status-precheck1-spec =

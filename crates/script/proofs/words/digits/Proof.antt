@@ -6,7 +6,20 @@ use Prim.Native.Nat.{_≤_, _<_, _-_, _+_, _*_, _^_}
 use mathlib.Core.Path.{_≡_, refl, sym, _∙_}
 use lib.ListN.{length, drop, getD}
 use Rattle.script.specs.Decimal.{allDigits, valueFrom}
-use Rattle.script.proofs.Digits.{at-least, digit-off, value-off, not-digits, digit, below, above, none-empty, none-other, none-large, some, at-end}
+use Rattle.script.proofs.Digits.{
+  at-least,
+  digit-off,
+  value-off,
+  not-digits,
+  digit,
+  below,
+  above,
+  none-empty,
+  none-other,
+  none-large,
+  some,
+  at-end,
+}
 use Rattle.script.proofs.words.digits.Statement.{statement}
 use Rattle.script.proofs.words.digits.Tie as tie
 

@@ -13,4 +13,6 @@ abbrev μ-loop : tie.MeasureT-loop
 μ-loop out₀ at items end₀ i₀ out end i = 6 - i
 
 pub actions-spec : {M : Type 1} → statement M
-actions-spec = tie.close (tie.spec Inv-loop μ-loop (λ c. search needs) (λ c. search needs) (λ c. search needs) (λ c κs. search needs) (λ c. search needs) (λ c. search needs) (λ c. search needs) (λ c κs. search needs) (λ c. search needs) (λ c. search needs))
+actions-spec =
+    tie.close (tie.spec Inv-loop μ-loop (λ c. search needs) (λ c. search needs) (λ c. search needs) (λ c κs. search needs)
+    (λ c. search needs) (λ c. search needs) (λ c. search needs) (λ c κs. search needs) (λ c. search needs) (λ c. search needs))

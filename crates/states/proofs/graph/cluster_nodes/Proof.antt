@@ -13,4 +13,6 @@ abbrev μ-loop : tie.MeasureT-loop
 μ-loop out₀ at first end₀ n₀ out end n = 69 - n
 
 pub cluster-nodes-spec : {M : Type 1} → statement M
-cluster-nodes-spec = tie.close (tie.spec Inv-loop μ-loop (λ c. search needs) (λ c κs. search needs) (λ c. search needs) (λ c. search needs) (λ c. search needs) (λ c. search needs) (λ c. search needs))
+cluster-nodes-spec =
+    tie.close (tie.spec Inv-loop μ-loop (λ c. search needs) (λ c κs. search needs) (λ c. search needs) (λ c. search needs)
+    (λ c. search needs) (λ c. search needs) (λ c. search needs))

@@ -13,4 +13,6 @@ abbrev μ-loop : tie.MeasureT-loop
 μ-loop out₀ at end₀ n₀ out end n = 69 - n
 
 pub completions-spec : {M : Type 1} → statement M
-completions-spec = tie.close (tie.spec Inv-loop μ-loop (λ c. search needs) (λ c κs. search needs) (λ c. search needs) (λ c. search needs) (λ c. search needs) (λ c. search needs) (λ c. search needs))
+completions-spec =
+    tie.close (tie.spec Inv-loop μ-loop (λ c. search needs) (λ c κs. search needs) (λ c. search needs) (λ c. search needs)
+    (λ c. search needs) (λ c. search needs) (λ c. search needs))

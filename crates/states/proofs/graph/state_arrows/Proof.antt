@@ -13,4 +13,6 @@ abbrev μ-loop : tie.MeasureT-loop
 μ-loop out₀ at n end₀ c₀ out end c = 32 - c
 
 pub state-arrows-spec : {M : Type 1} → statement M
-state-arrows-spec = tie.close (tie.spec Inv-loop μ-loop (λ c. search needs) (λ c κs. search needs) (λ c. search needs) (λ c. search needs) (λ c. search needs) (λ c. search needs) (λ c. search needs))
+state-arrows-spec =
+    tie.close (tie.spec Inv-loop μ-loop (λ c. search needs) (λ c κs. search needs) (λ c. search needs) (λ c. search needs)
+    (λ c. search needs) (λ c. search needs) (λ c. search needs))

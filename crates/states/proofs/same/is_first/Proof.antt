@@ -11,4 +11,6 @@ abbrev μ-loop : tie.MeasureT-loop
 μ-loop n c arrow first₀ e₀ first e = c - e
 
 pub is-first-spec : {M : Type 1} → statement M
-is-first-spec = tie.close (tie.spec Inv-loop μ-loop (λ c. search needs) (λ c κs. search needs) (λ c. search needs) (λ c. search needs) (λ c. search needs) (λ c. search needs))
+is-first-spec =
+    tie.close (tie.spec Inv-loop μ-loop (λ c. search needs) (λ c κs. search needs) (λ c. search needs) (λ c. search needs)
+    (λ c. search needs) (λ c. search needs))

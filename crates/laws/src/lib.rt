@@ -1,0 +1,1 @@
+// Laws that the proofs of several crates cite. There is no code here.

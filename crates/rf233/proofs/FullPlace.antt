@@ -1,0 +1,260 @@
+-- Where the Rust says `unwrap`, the place is full: `unwrap-holds`. Of a driver value that refusal 12 does not describe, whatever it is, a
+-- completion carries a row out only where each place that the row takes a buffer from is full, so that the 0 of `bufferIn Empty` is never
+-- seen, nor a frame transfer that lacks its buffer. From one test over the rows of all states (`rows-take`), and one over states and kinds
+-- of
+-- transfer for the return of the buffers (`return-keeps`). Assumes nothing.
+use Prim.Native.Nat.{ℕ}
+use mathlib.Core.Path.{_≡_, refl, sym, ap, subst, _∙_}
+use mathlib.Core.Bool.{Bool, true, false, not, _&&_, _||_}
+use mathlib.Core.List.{List, [], _∷_}
+use lib.Dec.{T, eqb, ltb}
+use borrow.Author.Tests.{not-false}
+use Rattle.laws.proofs.Logic.{
+  left,
+  right,
+  pair,
+  is-true,
+  is-false,
+  nor-left,
+  nor-right,
+  none-left,
+  none-right,
+  imp,
+  apply,
+  applied,
+  all,
+  all-at,
+  all-below,
+  below-at,
+}
+use Rattle.rf233.specs.Case.{perform, caseOf, ownCase, trees, treeAt}
+use Rattle.rf233.specs.Choice.{oneOf}
+use Rattle.rf233.specs.Completion.{buffersBack, transferOver, completed}
+use Rattle.rf233.specs.Described.{
+  recordedTwice,
+  ownNowhere,
+  clientAbove,
+  lengthBad,
+  heldBesides,
+  frameNo,
+  frameUnfit,
+  bufferMissing,
+  described,
+}
+use Rattle.rf233.specs.Interrupt.{interruptState}
+use Rattle.rf233.specs.Record.{isHeld}
+use Rattle.rf233.specs.Rows.{Access, Shown, Row, Tree, eval}
+use Rattle.rf233.specs.Rows.Access.{none, reads, writes, readsLength, readsFrame, writesFrame}
+use Rattle.rf233.specs.Rows.Row.{does}
+use Rattle.rf233.specs.Rows.Shown.{plain, powerChanged, configDone, sentBack, droppedBack, receivedBack}
+use Rattle.rf233.specs.Rows.Tree.{leaf, ask}
+use Rattle.rf233.specs.State.{stateNo, stateFrame}
+use Rattle.rf233.specs.declared.answer.Outcome.{Outcome}
+use Rattle.rf233.specs.declared.arrived.Arrived.{Arrived}
+use Rattle.rf233.specs.declared.driver.Buffers.{Buffers}
+use Rattle.rf233.specs.declared.driver.Driver.{Driver}
+use Rattle.rf233.specs.declared.driver.Under.{Under}
+use Rattle.rf233.specs.declared.driver.Under.the-variants.{Idle, Register, FrameRead, FrameWrite}
+use Rattle.rf233.specs.declared.state.InternalState.{InternalState}
+use Rattle.rf233.proofs.ChoiceLaws.{either}
+use Rattle.rf233.proofs.EveryStep.{OfSteps, Kept, completion-by}
+use Rattle.rf233.proofs.Fit.{Kind, kind, frameOf, doneNo, done-no, all-kinds, kind-at}
+use Rattle.rf233.proofs.Keys.{state-below}
+
+-- what a row takes: from the transmit place by a sent or dropped buffer or a frame write, from the receive place by a received buffer or a
+-- frame read
+abbrev shownTx : List Shown → Bool
+shownTx [] = false
+shownTx (plain x ∷ more) = shownTx more
+shownTx (powerChanged ∷ more) = shownTx more
+shownTx (configDone ∷ more) = shownTx more
+shownTx (sentBack ∷ more) = true
+shownTx (droppedBack ∷ more) = true
+shownTx (receivedBack ∷ more) = shownTx more
+
+abbrev shownRx : List Shown → Bool
+shownRx [] = false
+shownRx (plain x ∷ more) = shownRx more
+shownRx (powerChanged ∷ more) = shownRx more
+shownRx (configDone ∷ more) = shownRx more
+shownRx (sentBack ∷ more) = shownRx more
+shownRx (droppedBack ∷ more) = shownRx more
+shownRx (receivedBack ∷ more) = true
+
+abbrev accessTx : Access → Bool
+accessTx none = false
+accessTx (reads r) = false
+accessTx (writes r v) = false
+accessTx readsLength = false
+accessTx readsFrame = false
+accessTx writesFrame = true
+
+abbrev accessRx : Access → Bool
+accessRx none = false
+accessRx (reads r) = false
+accessRx (writes r v) = false
+accessRx readsLength = true
+accessRx readsFrame = true
+accessRx writesFrame = false
+
+abbrev pub takesTx : Row → Bool
+takesTx (does l x n s) = shownTx s || accessTx x
+
+abbrev pub takesRx : Row → Bool
+takesRx (does l x n s) = shownRx s || accessRx x
+
+-- the states that document 01 names: 33 and 43 take the transmit buffer; 62, 64 and 68 the receive buffer
+abbrev namedTx : ℕ → Bool
+namedTx n = oneOf (33 ∷ 43 ∷ []) n
+
+abbrev namedRx : ℕ → Bool
+namedRx n = oneOf (62 ∷ 64 ∷ 68 ∷ []) n
+
+abbrev rowTakes : ℕ → Row → Bool
+rowTakes n x = imp (takesTx x) (namedTx n) && imp (takesRx x) (namedRx n)
+
+abbrev treeTakes : ℕ → Tree → Bool
+treeTakes n (leaf x) = rowTakes n x
+treeTakes n (ask t u v) = treeTakes n u && treeTakes n v
+
+-- THE TEST OF THE ROWS: they take buffers in no other states
+rows-take : T (all-below (λ n. treeTakes n (treeAt n)) 69)
+unfolding treeAt trees
+rows-take = tt
+
+leads : (n : ℕ) (a : Arrived) (d : Driver) (u : Tree) → T (treeTakes n u) → T (rowTakes n (eval u a d))
+unfolding eval
+leads n a d (leaf x) t = t
+leads n a d (ask c u v) t =
+    either (λ x. T (rowTakes n x)) _ _ _ (leads n a d u (left (treeTakes n u) (treeTakes n v) t))
+    (leads n a d v (right (treeTakes n u) (treeTakes n v) t))
+
+-- the row that the case of the driver's state carries out
+abbrev pub rowOf : Arrived → Driver → Row
+rowOf a d = eval (treeAt (stateNo (d .state))) a d
+
+-- each place that the row takes a buffer from is full
+pub record Full (x : Row) (d : Driver) : Type 0 where
+  pub transmit : T (takesTx x) → T (isHeld (d .buffers .«tx_buf»))
+  pub receive : T (takesRx x) → T (isHeld (d .buffers .«rx_buf»))
+
+-- no buffer is missing where the state takes one
+abbrev missing : ℕ → Bool → Bool → Bool
+missing n t r = (namedTx n && not t) || (namedRx n && not r)
+
+abbrev Holds : Driver → Type 0
+Holds d = T (not (bufferMissing (d .buffers) (stateNo (d .state))))
+
+-- where a test is asked and nothing is missing, the place is full
+asked-full : (c t : Bool) → T (not (c && not t)) → T c → T t
+asked-full true true n y = tt
+asked-full true false n y = n
+asked-full false t n y = absurd y
+
+full : (a : Arrived) (d : Driver) → Holds d → Full (rowOf a d) d
+full a d h =
+    let n = stateNo (d .state) in
+    let x = rowOf a d in
+    let t = isHeld (d .buffers .«tx_buf») in
+    let r = isHeld (d .buffers .«rx_buf») in
+    let takes = leads n a d (treeAt n) (below-at (λ n. treeTakes n (treeAt n)) 69 rows-take n (state-below (d .state))) in
+    record {
+      transmit =
+          λ y. asked-full (namedTx n) t (nor-left (namedTx n && not t) (namedRx n && not r) h)
+          (apply (takesTx x) (namedTx n) (left (imp (takesTx x) (namedTx n)) (imp (takesRx x) (namedRx n)) takes) y);
+      receive =
+          λ y. asked-full (namedRx n) r (nor-right (namedTx n && not t) (namedRx n && not r) h)
+          (apply (takesRx x) (namedRx n) (right (imp (takesTx x) (namedTx n)) (imp (takesRx x) (namedRx n)) takes) y);
+    }
+
+-- the phases keep it: the states that they lead to take no buffer, or find it
+kept : Kept Holds
+unfolding interruptState
+kept =
+    record {
+      flags = λ f d h. h;
+      commits = λ d e. rw e tt;
+      moves = λ a d h.
+          let H : InternalState → Type 0 = λ s. T (not (bufferMissing (d .buffers) (stateNo s))) in
+          either H _ _ _ tt (either H _ _ _ tt (either H _ _ _ tt h));
+      reads = λ d f h. rw (is-true (isHeld (d .buffers .«rx_buf»)) f) tt;
+    }
+
+-- the return of the buffers: by the kind of transfer, the state's number, whether the places are full, and whether an interrupt is handled
+abbrev returnTest : Kind → ℕ → Bool → Bool → Bool → Bool
+returnTest k n t r h =
+    imp (eqb (frameOf k) (stateFrame n) && not (ltb 0 (frameOf k) && h))
+    (imp (not (missing n t r)) (not (missing (doneNo h n) (eqb (frameOf k) 2 || t) (eqb (frameOf k) 1 || r))))
+
+abbrev returnsAt : ℕ → Bool
+returnsAt n = all-kinds λ k. all λ t. all λ r. all λ h. returnTest k n t r h
+
+-- THE TEST OF THE RETURN
+return-keeps : T (all-below returnsAt 69)
+return-keeps = tt
+
+returned : (k : Kind) (s : InternalState) (t r h : Bool) → T (returnTest k (stateNo s) t r h)
+returned k s t r h =
+    let n = stateNo s in
+    all-at (returnTest k n t r)
+    (all-at (λ r. all λ h. returnTest k n t r h)
+    (all-at (λ t. all λ r. all λ h. returnTest k n t r h)
+    (kind-at (λ k. all λ t. all λ r. all λ h. returnTest k n t r h) (below-at returnsAt 69 return-keeps n (state-below s)) k) t) r) h
+
+frame-number : (u : Under) → frameOf (kind u) ≡ frameNo u
+frame-number Idle = refl
+frame-number Register = refl
+frame-number (FrameRead c l) = refl
+frame-number (FrameWrite c l) = refl
+
+tx-back : (u : Under) (b : Buffers) → isHeld (buffersBack u b .«tx_buf») ≡ eqb (frameOf (kind u)) 2 || isHeld (b .«tx_buf»)
+tx-back Idle b = refl
+tx-back Register b = refl
+tx-back (FrameRead c l) b = refl
+tx-back (FrameWrite c l) b = refl
+
+rx-back : (u : Under) (b : Buffers) → isHeld (buffersBack u b .«rx_buf») ≡ eqb (frameOf (kind u)) 1 || isHeld (b .«rx_buf»)
+rx-back Idle b = refl
+rx-back Register b = refl
+rx-back (FrameRead c l) b = refl
+rx-back (FrameWrite c l) b = refl
+
+-- two clauses of refusal 12
+module _ (d : Driver) (e : described d ≡ false) where
+  abbrev b : Buffers
+  b = d .buffers
+
+  abbrev n : ℕ
+  n = stateNo (d .state)
+
+  abbrev h : Bool
+  h = d .flags .«interrupt_handling»
+
+  last-clauses : frameUnfit (b .under) n h || bufferMissing b n ≡ false
+  unfolding described
+  last-clauses =
+      none-right (heldBesides b) _
+      (none-right (lengthBad b) _ (none-right (clientAbove b) _ (none-right (ownNowhere b) _ (none-right (recordedTwice b) _ e))))
+
+  fits : T (eqb (frameOf (kind (b .under))) (stateFrame n) && not (ltb 0 (frameOf (kind (b .under))) && h))
+  fits =
+      let unfit = none-left (frameUnfit (b .under) n h) (bufferMissing b n) last-clauses in
+      let f = eqb (frameNo (b .under)) (stateFrame n) in
+      let with-frame = ltb 0 (frameNo (b .under)) && h in
+      rw (frame-number (b .under), not-false f (none-left (not f) with-frame unfit), none-right (not f) with-frame unfit) tt
+
+  over : Holds (transferOver d)
+  over =
+      let t = isHeld (b .«tx_buf») in
+      let r = isHeld (b .«rx_buf») in
+      let k = kind (b .under) in
+      let found : T (not (missing n t r)) = rw (none-right (frameUnfit (b .under) n h) (bufferMissing b n) last-clauses) tt in
+      rw (done-no h (d .state), tx-back (b .under) b, rx-back (b .under) b)
+      (apply (not (missing n t r)) (not (missing (doneNo h n) (eqb (frameOf k) 2 || t) (eqb (frameOf k) 1 || r)))
+      (apply (eqb (frameOf k) (stateFrame n) && not (ltb 0 (frameOf k) && h)) _ (returned k (d .state) t r h) fits) found)
+
+-- whatever holds of steps that carry no row out, and of a row carried out with its places full, holds of every completion of a driver value
+-- that 12 does not describe
+pub unwrap-holds : (P : Outcome → Type 0) → OfSteps P → ((a : Arrived) (d : Driver) → Full (rowOf a d) d → P (ownCase a d))
+    → (a : Arrived) (d : Driver) → described d ≡ false → P (completed a d)
+unwrap-holds P of row a d e = completion-by P of Holds kept (λ a d h. row a d (full a d h)) a d (over d e)

@@ -1,0 +1,25 @@
+-- The steps of a register transfer, and a step with its actions (the Rust's `state_transition_read`, `state_transition_write`).
+use Prim.Native.Nat.{ℕ}
+use mathlib.Core.List.{[]}
+use Rattle.rf233_const.specs.declared.register.RF233Register.{RF233Register}
+use Rattle.rf233.specs.Action.{actions}
+use Rattle.rf233.specs.Answer.{stepOf}
+use Rattle.rf233.specs.Driver.{withState}
+use Rattle.rf233.specs.Transfer.{registerRead, registerWrite}
+use Rattle.rf233.specs.declared.action.Actions.{Actions}
+use Rattle.rf233.specs.declared.answer.Outcome.{Outcome}
+use Rattle.rf233.specs.declared.driver.Driver.{Driver}
+use Rattle.rf233.specs.declared.state.InternalState.{InternalState}
+
+-- a register read, and the next state
+abbrev pub transitionRead : RF233Register → InternalState → Driver → Outcome
+transitionRead r n d = stepOf (registerRead r (withState n d)) (actions [])
+
+-- a register write, and the next state
+abbrev pub transitionWrite : RF233Register → ℕ → InternalState → Driver → Outcome
+transitionWrite r v n d = stepOf (registerWrite r v (withState n d)) (actions [])
+
+-- the step with these actions
+abbrev pub withActions : Actions → Outcome → Outcome
+withActions l o =
+    record { driver = o .driver; reply = record { answer = o .reply .answer; transfer = o .reply .transfer; actions = l } }
