@@ -24,6 +24,7 @@ fn letter(out: &mut [u8], at: usize, of: u8, value: u8) -> usize {
     decimal(out, b, value as u64)
 }
 
+// A dot and a notice's second value, 1 or 0.
 fn second_value(out: &mut [u8], at: usize, value: bool) -> usize {
     if value {
         return text(out, at, b".1");
@@ -31,20 +32,24 @@ fn second_value(out: &mut [u8], at: usize, value: bool) -> usize {
     text(out, at, b".0")
 }
 
+// A flag as the number 1 or 0.
 fn in_number(flag: bool) -> u8 {
     if flag { 1 } else { 0 }
 }
 
+// A sent notice: whether the frame was acknowledged, and the code.
 fn sent(out: &mut [u8], at: usize, ack: bool, code: bool) -> usize {
     let a = letter(out, at, b's', in_number(ack));
     second_value(out, a, code)
 }
 
+// A received notice: the frame's length, and whether its CRC was valid.
 fn received(out: &mut [u8], at: usize, length: u8, crc: bool) -> usize {
     let a = letter(out, at, b'r', length);
     second_value(out, a, crc)
 }
 
+// The action where it is a notice; what is asked of a pin is not written.
 fn notice(out: &mut [u8], at: usize, item: Item) -> usize {
     let action = item.action;
     match action {
@@ -57,6 +62,7 @@ fn notice(out: &mut [u8], at: usize, item: Item) -> usize {
     }
 }
 
+// The notices among a step's actions, in order.
 fn notices(out: &mut [u8], at: usize, actions: Actions) -> usize {
     let items = actions.items;
     let mut end = at;
@@ -68,6 +74,7 @@ fn notices(out: &mut [u8], at: usize, actions: Actions) -> usize {
     end
 }
 
+// The transfer that the step begins; nothing where it begins none.
 fn transfer(out: &mut [u8], at: usize, t: Transfer) -> usize {
     if t.kind == 0 {
         return at;
@@ -80,6 +87,7 @@ fn transfer(out: &mut [u8], at: usize, t: Transfer) -> usize {
     decimal(out, e, t.read_len as u64)
 }
 
+// The number of the refusal; nothing where the call is accepted.
 fn refusal(out: &mut [u8], at: usize, answer: u8) -> usize {
     if answer == 0 {
         return at;
@@ -108,6 +116,7 @@ struct Run {
     at: usize,
 }
 
+// What a step yields, where it is to be shown.
 fn write_step(out: &mut [u8], at: usize, shown: bool, yielded: Outcome) -> usize {
     if shown {
         return token(out, at, yielded);
@@ -115,6 +124,7 @@ fn write_step(out: &mut [u8], at: usize, shown: bool, yielded: Outcome) -> usize
     at
 }
 
+// Makes the event that begins the list, and writes what it yields where that is shown.
 fn step(run: Run, events: &[u8], shown: bool, out: &mut [u8], pool: &mut [u8]) -> Run {
     let before = run.driver;
     let yielded = make(before, events, pool);
@@ -167,6 +177,7 @@ fn is_expected(out: &[u8], from: usize, to: usize, expected: &[u8]) -> bool {
     check::same(&out[from + 1..to], expected)
 }
 
+// The end of the line: whether what was got is what is expected.
 fn verdict(out: &mut [u8], at: usize, same: bool) -> usize {
     if same {
         return text(out, at, b" | same\n");

@@ -4,6 +4,7 @@ mod table;
 
 use stdio::streams::write_first;
 
+// Runs the eight corners one after another, and writes their lines.
 fn main() {
     let mut out = io::large_buffer();
     let a = table::corner_1(&mut out, 0);

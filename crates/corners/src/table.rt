@@ -2,6 +2,7 @@
 // and the oracle's answers.
 use crate::corner::corner;
 
+// Corner 1 of scripts/.
 pub fn corner_1(out: &mut [u8], at: usize) -> usize {
     corner(
         out,
@@ -13,6 +14,7 @@ pub fn corner_1(out: &mut [u8], at: usize) -> usize {
     )
 }
 
+// Corner 2 of scripts/.
 pub fn corner_2(out: &mut [u8], at: usize) -> usize {
     corner(
         out,
@@ -27,6 +29,7 @@ pub fn corner_2(out: &mut [u8], at: usize) -> usize {
     )
 }
 
+// Corner 3 of scripts/.
 pub fn corner_3(out: &mut [u8], at: usize) -> usize {
     corner(
         out,
@@ -38,6 +41,7 @@ pub fn corner_3(out: &mut [u8], at: usize) -> usize {
     )
 }
 
+// Corner 4 of scripts/.
 pub fn corner_4(out: &mut [u8], at: usize) -> usize {
     corner(
         out,
@@ -49,6 +53,7 @@ pub fn corner_4(out: &mut [u8], at: usize) -> usize {
     )
 }
 
+// Corner 5 of scripts/.
 pub fn corner_5(out: &mut [u8], at: usize) -> usize {
     corner(
         out,
@@ -63,6 +68,7 @@ pub fn corner_5(out: &mut [u8], at: usize) -> usize {
     )
 }
 
+// Corner 6 of scripts/.
 pub fn corner_6(out: &mut [u8], at: usize) -> usize {
     corner(
         out,
@@ -74,6 +80,7 @@ pub fn corner_6(out: &mut [u8], at: usize) -> usize {
     )
 }
 
+// Corner 7 of scripts/.
 pub fn corner_7(out: &mut [u8], at: usize) -> usize {
     corner(
         out,
@@ -86,6 +93,7 @@ pub fn corner_7(out: &mut [u8], at: usize) -> usize {
     )
 }
 
+// Corner 8 of scripts/.
 pub fn corner_8(out: &mut [u8], at: usize) -> usize {
     corner(
         out,

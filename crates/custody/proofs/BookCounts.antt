@@ -28,25 +28,7 @@ use Rattle.custody.specs.Book.{
 use Rattle.custody.specs.BookCode.{wrapped}
 use Rattle.custody.specs.Book.Fed.{lendsTransmit, lendsReceive, completes, other}
 use Rattle.rf233.specs.declared.action.Action.{Action}
-use Rattle.rf233.specs.declared.action.Action.the-variants.{
-  Nothing,
-  Power,
-  Sent,
-  Received,
-  ConfigDone,
-  Dropped,
-  IrqMakeInput,
-  IrqClear,
-  IrqSetFloatingState,
-  IrqEnableInterrupts,
-  IrqDisableInterrupts,
-  SleepMakeOutput,
-  SleepSet,
-  SleepClear,
-  ResetMakeOutput,
-  ResetClear,
-  ResetSet,
-}
+use Rattle.rf233.specs.declared.action.Action.the-variants as action
 use Rattle.rf233.specs.declared.action.Item.{Item}
 use Rattle.rf233.specs.declared.answer.Reply.{Reply}
 
@@ -86,23 +68,23 @@ called-wrapped completes k = ended-wrapped k
 called-wrapped other k = twice k
 
 pub noted-wrapped : (a : Action) (k : Page) → wrapped (noted a (wrapped k)) ≡ wrapped (noted a k)
-noted-wrapped Nothing k = twice k
-noted-wrapped (Power v) k = twice k
-noted-wrapped (Sent b a f) k = given-wrapped b 2 1 0 k
-noted-wrapped (Received b l v) k = given-wrapped b 3 1 0 k
-noted-wrapped ConfigDone k = twice k
-noted-wrapped (Dropped b) k = given-wrapped b 2 0 1 k
-noted-wrapped IrqMakeInput k = twice k
-noted-wrapped IrqClear k = twice k
-noted-wrapped IrqSetFloatingState k = twice k
-noted-wrapped IrqEnableInterrupts k = twice k
-noted-wrapped IrqDisableInterrupts k = twice k
-noted-wrapped SleepMakeOutput k = twice k
-noted-wrapped SleepSet k = twice k
-noted-wrapped SleepClear k = twice k
-noted-wrapped ResetMakeOutput k = twice k
-noted-wrapped (ResetClear n) k = twice k
-noted-wrapped ResetSet k = twice k
+noted-wrapped action.Nothing k = twice k
+noted-wrapped (action.Power v) k = twice k
+noted-wrapped (action.Sent b a f) k = given-wrapped b 2 1 0 k
+noted-wrapped (action.Received b l v) k = given-wrapped b 3 1 0 k
+noted-wrapped action.ConfigDone k = twice k
+noted-wrapped (action.Dropped b) k = given-wrapped b 2 0 1 k
+noted-wrapped action.IrqMakeInput k = twice k
+noted-wrapped action.IrqClear k = twice k
+noted-wrapped action.IrqSetFloatingState k = twice k
+noted-wrapped action.IrqEnableInterrupts k = twice k
+noted-wrapped action.IrqDisableInterrupts k = twice k
+noted-wrapped action.SleepMakeOutput k = twice k
+noted-wrapped action.SleepSet k = twice k
+noted-wrapped action.SleepClear k = twice k
+noted-wrapped action.ResetMakeOutput k = twice k
+noted-wrapped (action.ResetClear n) k = twice k
+noted-wrapped action.ResetSet k = twice k
 
 pub noted-all-wrapped : (l : List Item) (k : Page) → wrapped (notedAll l (wrapped k)) ≡ wrapped (notedAll l k)
 noted-all-wrapped [] k = twice k

@@ -68,7 +68,7 @@ use Rattle.laws.proofs.Logic.{left, right, pair, is-true, is-false, both-left, 
 use Rattle.rf233.proofs.ChoiceLaws.{branch, either}
 use Rattle.rf233.proofs.Accepted.{IsDone, done-handle, done-completed}
 use Rattle.custody.proofs.Custody.{Inv, After, Fits, Lengths, register-refrains, under-idle}
-use Rattle.custody.proofs.Engine.{asks, rest-handles, ready-keeps, result-keeps}
+use Rattle.custody.proofs.Phases.{asks, rest-handles, ready-keeps, result-keeps}
 use Rattle.rf233.proofs.Fit.{
   Kind,
   kind,

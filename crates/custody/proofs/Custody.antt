@@ -42,25 +42,7 @@ use Rattle.rf233.specs.Transfer.{
   frameWriteFrom,
 }
 use Rattle.rf233.specs.declared.action.Action.{Action}
-use Rattle.rf233.specs.declared.action.Action.the-variants.{
-  Nothing,
-  Power,
-  Sent,
-  Received,
-  ConfigDone,
-  Dropped,
-  IrqMakeInput,
-  IrqClear,
-  IrqSetFloatingState,
-  IrqEnableInterrupts,
-  IrqDisableInterrupts,
-  SleepMakeOutput,
-  SleepSet,
-  SleepClear,
-  ResetMakeOutput,
-  ResetClear,
-  ResetSet,
-}
+use Rattle.rf233.specs.declared.action.Action.the-variants as action
 use Rattle.rf233.specs.declared.answer.Outcome.{Outcome}
 use Rattle.rf233.specs.declared.answer.Reply.{Reply}
 use Rattle.rf233.specs.declared.arrived.Arrived.{Arrived}
@@ -141,47 +123,47 @@ notes [] k = k
 notes (x ∷ more) k = notes more (noted x k)
 
 -- what fills the list past its count is passed over
-nothings : (n m : ℕ) (k : Page) → notedAll (map item (take n (replicate m Nothing))) k ≡ k
+nothings : (n m : ℕ) (k : Page) → notedAll (map item (take n (replicate m action.Nothing))) k ≡ k
 nothings zero m k = refl
 nothings (suc n) zero k = refl
 nothings (suc n) (suc m) k = nothings n m k
 
-pub filled : (n m : ℕ) (l : List Action) (k : Page) → length l ≤ n → notedAll (map item (take n (l ++ replicate m Nothing))) k ≡ notes l k
+pub filled : (n m : ℕ) (l : List Action) (k : Page) → length l ≤ n → notedAll (map item (take n (l ++ replicate m action.Nothing))) k ≡ notes l k
 filled n m [] k h = nothings n m k
 filled zero m (x ∷ l) k h = absurd (not-suc-le-zero h)
 filled (suc n) m (x ∷ l) k h = filled n m l (noted x k) (le-of-suc-le-suc h)
 
 -- an action that hands nothing back leaves the book as it is
 quietly : (x : Action) (k : Page) → T (harmless x) → noted x k ≡ k
-quietly Nothing k h = refl
-quietly (Power v) k h = refl
-quietly (Sent b a e) k h = absurd h
-quietly (Received b l v) k h = absurd h
-quietly ConfigDone k h = refl
-quietly (Dropped b) k h = absurd h
-quietly IrqMakeInput k h = refl
-quietly IrqClear k h = refl
-quietly IrqSetFloatingState k h = refl
-quietly IrqEnableInterrupts k h = refl
-quietly IrqDisableInterrupts k h = refl
-quietly SleepMakeOutput k h = refl
-quietly SleepSet k h = refl
-quietly SleepClear k h = refl
-quietly ResetMakeOutput k h = refl
-quietly (ResetClear n) k h = refl
-quietly ResetSet k h = refl
+quietly action.Nothing k h = refl
+quietly (action.Power v) k h = refl
+quietly (action.Sent b a e) k h = absurd h
+quietly (action.Received b l v) k h = absurd h
+quietly action.ConfigDone k h = refl
+quietly (action.Dropped b) k h = absurd h
+quietly action.IrqMakeInput k h = refl
+quietly action.IrqClear k h = refl
+quietly action.IrqSetFloatingState k h = refl
+quietly action.IrqEnableInterrupts k h = refl
+quietly action.IrqDisableInterrupts k h = refl
+quietly action.SleepMakeOutput k h = refl
+quietly action.SleepSet k h = refl
+quietly action.SleepClear k h = refl
+quietly action.ResetMakeOutput k h = refl
+quietly (action.ResetClear n) k h = refl
+quietly action.ResetSet k h = refl
 
 -- actions that are within their ranges are so in the filled list
 abbrev fitting : List Action → Bool
 fitting [] = true
 fitting (x ∷ more) = actionFits x && fitting more
 
-nothing-fits : (n m : ℕ) → T (actionsFit (map item (take n (replicate m Nothing))))
+nothing-fits : (n m : ℕ) → T (actionsFit (map item (take n (replicate m action.Nothing))))
 nothing-fits zero m = tt
 nothing-fits (suc n) zero = tt
 nothing-fits (suc n) (suc m) = nothing-fits n m
 
-pub filled-fits : (n m : ℕ) (l : List Action) → T (fitting l) → T (actionsFit (map item (take n (l ++ replicate m Nothing))))
+pub filled-fits : (n m : ℕ) (l : List Action) → T (fitting l) → T (actionsFit (map item (take n (l ++ replicate m action.Nothing))))
 filled-fits n m [] h = nothing-fits n m
 filled-fits zero m (x ∷ l) h = tt
 filled-fits (suc n) m (x ∷ l) h =
@@ -189,23 +171,23 @@ filled-fits (suc n) m (x ∷ l) h =
 
 -- an action that hands nothing back is within its range
 quiet-fits : (x : Action) → T (harmless x) → T (actionFits x)
-quiet-fits Nothing h = tt
-quiet-fits (Power v) h = tt
-quiet-fits (Sent b a e) h = tt
-quiet-fits (Received b l v) h = tt
-quiet-fits ConfigDone h = tt
-quiet-fits (Dropped b) h = absurd h
-quiet-fits IrqMakeInput h = tt
-quiet-fits IrqClear h = tt
-quiet-fits IrqSetFloatingState h = tt
-quiet-fits IrqEnableInterrupts h = tt
-quiet-fits IrqDisableInterrupts h = tt
-quiet-fits SleepMakeOutput h = tt
-quiet-fits SleepSet h = tt
-quiet-fits SleepClear h = tt
-quiet-fits ResetMakeOutput h = tt
-quiet-fits (ResetClear n) h = tt
-quiet-fits ResetSet h = tt
+quiet-fits action.Nothing h = tt
+quiet-fits (action.Power v) h = tt
+quiet-fits (action.Sent b a e) h = tt
+quiet-fits (action.Received b l v) h = tt
+quiet-fits action.ConfigDone h = tt
+quiet-fits (action.Dropped b) h = absurd h
+quiet-fits action.IrqMakeInput h = tt
+quiet-fits action.IrqClear h = tt
+quiet-fits action.IrqSetFloatingState h = tt
+quiet-fits action.IrqEnableInterrupts h = tt
+quiet-fits action.IrqDisableInterrupts h = tt
+quiet-fits action.SleepMakeOutput h = tt
+quiet-fits action.SleepSet h = tt
+quiet-fits action.SleepClear h = tt
+quiet-fits action.ResetMakeOutput h = tt
+quiet-fits (action.ResetClear n) h = tt
+quiet-fits action.ResetSet h = tt
 
 -- a buffer in a client's place is below 16
 client-below : (s : Slot) → slotAbove s ≡ false → T (leb (bufferIn s) 15)

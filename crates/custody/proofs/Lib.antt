@@ -1,7 +1,7 @@
 pub mod BookLaws
 pub mod Match
 pub mod Custody
-pub mod Engine
+pub mod Phases
 pub mod Calls
 pub mod CustodyClaim
 pub mod BookCounts

@@ -8,25 +8,7 @@ use lib.ListN.{getD, set, replicate}
 use Rattle.rf233.specs.Answer.{answerNo}
 use Rattle.rf233.specs.Place.{clientPlace, ownPlace, transmitPlace, receivePlace, transferPlace}
 use Rattle.rf233.specs.declared.action.Action.{Action}
-use Rattle.rf233.specs.declared.action.Action.the-variants.{
-  Nothing,
-  Power,
-  Sent,
-  Received,
-  ConfigDone,
-  Dropped,
-  IrqMakeInput,
-  IrqClear,
-  IrqSetFloatingState,
-  IrqEnableInterrupts,
-  IrqDisableInterrupts,
-  SleepMakeOutput,
-  SleepSet,
-  SleepClear,
-  ResetMakeOutput,
-  ResetClear,
-  ResetSet,
-}
+use Rattle.rf233.specs.declared.action.Action.the-variants as action
 use Rattle.rf233.specs.declared.action.Item.{Item}
 use Rattle.rf233.specs.declared.answer.Reply.{Reply}
 
@@ -41,6 +23,7 @@ pub record Page : Type 0 where
   pub dropped : ℕ
   pub fault : Bool
 
+-- the page of these values
 abbrev pub page : List ℕ → ℕ → ℕ → ℕ → ℕ → ℕ → ℕ → Bool → Page
 page l k w r a h d f =
     record { places = l; kind = k; write = w; read = r; accepted = a; handed = h; dropped = d; fault = f }
@@ -92,33 +75,34 @@ given b p m n k =
 
 -- an action: a sent notice or a drop from the transmit place, a received notice from the receive place; others nothing
 abbrev pub noted : Action → Page → Page
-noted Nothing k = k
-noted (Power v) k = k
-noted (Sent b a f) k = given b transmitPlace 1 0 k
-noted (Received b l v) k = given b receivePlace 1 0 k
-noted ConfigDone k = k
-noted (Dropped b) k = given b transmitPlace 0 1 k
-noted IrqMakeInput k = k
-noted IrqClear k = k
-noted IrqSetFloatingState k = k
-noted IrqEnableInterrupts k = k
-noted IrqDisableInterrupts k = k
-noted SleepMakeOutput k = k
-noted SleepSet k = k
-noted SleepClear k = k
-noted ResetMakeOutput k = k
-noted (ResetClear n) k = k
-noted ResetSet k = k
+noted action.Nothing k = k
+noted (action.Power v) k = k
+noted (action.Sent b a f) k = given b transmitPlace 1 0 k
+noted (action.Received b l v) k = given b receivePlace 1 0 k
+noted action.ConfigDone k = k
+noted (action.Dropped b) k = given b transmitPlace 0 1 k
+noted action.IrqMakeInput k = k
+noted action.IrqClear k = k
+noted action.IrqSetFloatingState k = k
+noted action.IrqEnableInterrupts k = k
+noted action.IrqDisableInterrupts k = k
+noted action.SleepMakeOutput k = k
+noted action.SleepSet k = k
+noted action.SleepClear k = k
+noted action.ResetMakeOutput k = k
+noted (action.ResetClear n) k = k
+noted action.ResetSet k = k
 
 -- the actions in order
 abbrev pub notedAll : List Item → Page → Page
 notedAll [] k = k
 notedAll (x ∷ more) k = notedAll more (noted (x .action) k)
 
--- the places that a transfer of a kind takes its two buffers from
+-- the place that a transfer of a kind takes the buffer from that it sends
 abbrev pub writeFrom : ℕ → ℕ
 writeFrom k = cond (eqb k 4) transmitPlace ownPlace
 
+-- and the one that it reads into
 abbrev pub readFrom : ℕ → ℕ
 readFrom k = cond (eqb k 3) receivePlace ownPlace
 
@@ -133,6 +117,7 @@ taken n w r k =
     (k .fault || (not (eqb (k .kind) 0) || (ltb 4 n || (not (namesOwn n w r)
     || (missing w (writeFrom n) (k .places) || missing r (readFrom n) (k .places))))))
 
+-- the transfer of a call, if it started one
 abbrev pub begun : ℕ → ℕ → ℕ → Page → Page
 begun n w r k = cond (eqb n 0) k (taken n w r k)
 

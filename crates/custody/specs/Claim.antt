@@ -83,11 +83,13 @@ pub record World : Type 0 where
   pub driver : Driver
   pub book : Page
 
+-- one call: the driver after it, and the book with what it yielded entered
 unfoldable pub next : World → Event → World
 next w e =
     let o = yields (w .driver) (e .call) (e .pool) in
     record { driver = o .driver; book = entered (fed (e .call)) (o .reply) (w .book) }
 
+-- a list of calls, one after another
 unfoldable pub run : World → List Event → World
 run w [] = w
 run w (e ∷ es) = run (next w e) es
@@ -105,22 +107,25 @@ abbrev pub heldBelow : Buffers → ℕ → ℕ
 heldBelow r zero = 0
 heldBelow r (suc n) = heldBelow r n + one (recordHas r n)
 
--- the kind and the two buffers of the transfer under way; a register transfer's direction is not recorded
+-- a kind as the driver's record has it: a register transfer's direction is not in it
 abbrev pub kindOf : ℕ → ℕ
 kindOf k = cond (eqb k 2) 1 k
 
+-- the kind of the transfer under way
 abbrev pub underKind : Under → ℕ
 underKind Idle = 0
 underKind Register = 1
 underKind (FrameRead c l) = 3
 underKind (FrameWrite c l) = 4
 
+-- the buffer that it sends
 abbrev pub underWrite : Under → ℕ
 underWrite Idle = 0
 underWrite Register = 16
 underWrite (FrameRead c l) = 18
 underWrite (FrameWrite c l) = c
 
+-- the buffer that it reads into
 abbrev pub underRead : Under → ℕ
 underRead Idle = 0
 underRead Register = 17

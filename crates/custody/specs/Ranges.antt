@@ -7,25 +7,7 @@ use Rattle.rf233.specs.Choice.{within}
 use Rattle.rf233.specs.Answer.{answerNo}
 use Rattle.rf233.specs.State.{stateNo}
 use Rattle.rf233.specs.declared.action.Action.{Action}
-use Rattle.rf233.specs.declared.action.Action.the-variants.{
-  Nothing,
-  Power,
-  Sent,
-  Received,
-  ConfigDone,
-  Dropped,
-  IrqMakeInput,
-  IrqClear,
-  IrqSetFloatingState,
-  IrqEnableInterrupts,
-  IrqDisableInterrupts,
-  SleepMakeOutput,
-  SleepSet,
-  SleepClear,
-  ResetMakeOutput,
-  ResetClear,
-  ResetSet,
-}
+use Rattle.rf233.specs.declared.action.Action.the-variants as action
 use Rattle.rf233.specs.declared.action.Item.{Item}
 use Rattle.rf233.specs.declared.answer.Outcome.{Outcome}
 use Rattle.rf233.specs.declared.answer.Reply.{Reply}
@@ -42,24 +24,25 @@ transferFits t = cond (eqb (t .kind) 0) (nothingSent t) (leb (t .kind) 4 && (wit
 
 -- a dropped buffer is 0 to 15
 abbrev pub actionFits : Action → Bool
-actionFits Nothing = true
-actionFits (Power v) = true
-actionFits (Sent b a f) = true
-actionFits (Received b l v) = true
-actionFits ConfigDone = true
-actionFits (Dropped b) = leb b 15
-actionFits IrqMakeInput = true
-actionFits IrqClear = true
-actionFits IrqSetFloatingState = true
-actionFits IrqEnableInterrupts = true
-actionFits IrqDisableInterrupts = true
-actionFits SleepMakeOutput = true
-actionFits SleepSet = true
-actionFits SleepClear = true
-actionFits ResetMakeOutput = true
-actionFits (ResetClear n) = true
-actionFits ResetSet = true
+actionFits action.Nothing = true
+actionFits (action.Power v) = true
+actionFits (action.Sent b a f) = true
+actionFits (action.Received b l v) = true
+actionFits action.ConfigDone = true
+actionFits (action.Dropped b) = leb b 15
+actionFits action.IrqMakeInput = true
+actionFits action.IrqClear = true
+actionFits action.IrqSetFloatingState = true
+actionFits action.IrqEnableInterrupts = true
+actionFits action.IrqDisableInterrupts = true
+actionFits action.SleepMakeOutput = true
+actionFits action.SleepSet = true
+actionFits action.SleepClear = true
+actionFits action.ResetMakeOutput = true
+actionFits (action.ResetClear n) = true
+actionFits action.ResetSet = true
 
+-- each of the actions is within its ranges
 abbrev pub actionsFit : List Item → Bool
 actionsFit [] = true
 actionsFit (x ∷ more) = actionFits (x .action) && actionsFit more

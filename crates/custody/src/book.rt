@@ -49,6 +49,7 @@ pub enum Fed {
     Other,
 }
 
+// The book before any call: 16 buffers with the client, three that are the driver's own, and nothing counted.
 pub fn new_book() -> Book
     ensures { λ r. ⌜ pageOf r ≡ newPage ⌝ }
 {
@@ -80,6 +81,7 @@ fn is_missing(places: [u8; 19], buffer: u8, place: u8) -> bool
     (18 < buffer) | (here != place)
 }
 
+// The places with the buffer at this one; a buffer that there is not changes none.
 fn put_at(places: [u8; 19], buffer: u8, place: u8) -> [u8; 19]
     ensures { λ r. ⌜ r ≡ set places buffer place ⌝ }
 {
@@ -163,6 +165,7 @@ fn give(book: Book, buffer: u8, place: u8, handed: u64, dropped: u64) -> Book
     next
 }
 
+// What an action moves: `Sent`, `Received` and `Dropped` give their buffer back to the client, the others move nothing.
 fn enter_action(book: Book, action: Action) -> Book
     ensures { λ r. ⌜ pageOf r ≡ wrapped (noted action (pageOf book)) ⌝ }
 {
@@ -187,6 +190,7 @@ fn enter_action(book: Book, action: Action) -> Book
     }
 }
 
+// What the action in an element of the list moves.
 fn enter_item(book: Book, item: Item) -> Book
     ensures { λ r. ⌜ pageOf r ≡ wrapped (noted (item .action) (pageOf book)) ⌝ }
 {
@@ -194,6 +198,7 @@ fn enter_item(book: Book, item: Item) -> Book
     enter_action(book, action)
 }
 
+// What the actions move, in order; the elements past their count hold `Nothing`.
 fn enter_actions(book: Book, actions: Actions) -> Book
     ensures { λ r. ⌜ pageOf r ≡ wrapped (notedAll (actions .items) (pageOf book)) ⌝ }
 {
@@ -226,6 +231,7 @@ fn write_from(kind: u8) -> u8
     if kind == 4 { 2 } else { 1 }
 }
 
+// The place of the buffer that is read into: receive for a frame read, else the driver's own.
 fn read_from(kind: u8) -> u8
     ensures { λ r. ⌜ r ≡ readFrom kind ⌝ }
 {
@@ -250,6 +256,7 @@ fn take_buffers(book: Book, kind: u8, write: u8, read: u8) -> Book
     next
 }
 
+// The transfer that the call starts takes its buffers; kind 0 is none, and takes nothing.
 fn enter_transfer(book: Book, transfer: Transfer) -> Book
     ensures { λ r. ⌜ pageOf r ≡ wrapped (begun (transfer .kind) (transfer .write) (transfer .read) (pageOf book)) ⌝ }
 {

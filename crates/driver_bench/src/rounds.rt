@@ -10,11 +10,13 @@ use scenario::event::is_completion;
 use scenario::event::make;
 use scenario::event::width;
 
+// A driver, and the digest of what its steps have yielded so far.
 struct Run {
     driver: Driver,
     digest: Digest,
 }
 
+// A new driver, with 129 bytes of spi_buf and channel 26, and a digest of nothing.
 fn first() -> Run {
     let out = new(129, 26);
     let driver = out.driver;
@@ -33,6 +35,7 @@ fn outcome(d: Driver, events: &[u8], pool: &mut [u8]) -> Outcome {
     make(d, events, pool)
 }
 
+// Makes the event that begins the list, and mixes its transfer and its notices into the digest.
 fn step(run: Run, events: &[u8], pool: &mut [u8]) -> Run {
     let before = run.driver;
     let out = outcome(before, events, pool);
@@ -60,6 +63,7 @@ fn round(from: Run, events: &[u8], pool: &mut [u8]) -> Run {
     run
 }
 
+// The whole list of events, `rounds` times.
 fn all_rounds(from: Run, events: &[u8], rounds: u32, pool: &mut [u8]) -> Run {
     let mut run = from;
     let mut left = rounds;
@@ -70,6 +74,7 @@ fn all_rounds(from: Run, events: &[u8], rounds: u32, pool: &mut [u8]) -> Run {
     run
 }
 
+// The digest of a new driver that goes through `setup` once and through `events` so many times.
 pub fn run_scenario(setup: &[u8], events: &[u8], rounds: u32, pool: &mut [u8]) -> Digest {
     let from = round(first(), setup, pool);
     let ended = all_rounds(from, events, rounds, pool);

@@ -3,6 +3,7 @@ use crate::reduce::fold;
 ghost use mathlib.Core.Path.{_≡_};
 ghost use Rattle.fcs.specs.Word.{reduced, four};
 
+// The four words, `a` the first to leave the register and `d` the last.
 pub(crate) struct Block {
     pub a: u64,
     pub b: u64,

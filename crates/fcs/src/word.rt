@@ -4,6 +4,7 @@ ghost use Prim.Native.Nat.{_+_, _≤_, _<_};
 ghost use lib.ListN.{length, getD};
 ghost use Rattle.fcs.specs.Word.{bytesAt};
 
+// The byte there, widened to the 64 bits of a word.
 fn byte_at(bytes: &[u8], at: usize) -> u64
     requires { ⌜ at < length (now bytes) ⌝ }
     ensures { λ b. ⌜ b ≡ getD (now (bytes .entry)) at 0 ⌝ }

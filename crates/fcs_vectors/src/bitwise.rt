@@ -15,6 +15,7 @@ fn four_steps(r: u16, d: u16) -> u16 {
     bit_step(bit_step(bit_step(bit_step(r, d), d >> 1), d >> 2), d >> 3)
 }
 
+// One byte into the register, its bit 0 first.
 fn byte_step(r: u16, b: u8) -> u16 {
     let d = b as u16;
     four_steps(four_steps(r, d), d >> 4)
@@ -28,6 +29,7 @@ fn turned_round(r: u16) -> u16 {
     (c >> 8) | (c << 8)
 }
 
+// The check of the bytes, from a register of 0 on, with its bits in the order in which `fcs` answers them.
 pub fn check(bytes: &[u8]) -> u16 {
     let mut r: u16 = 0;
     let mut i = 0;

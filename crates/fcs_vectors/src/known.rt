@@ -2,6 +2,7 @@
 use crate::bitwise;
 use fcs::fcs::fcs;
 
+// The line of a list: its name, the known check, both answers, and whether both are the known check.
 pub fn line(name: &[u8], bytes: &[u8], expected: u16) {
     let got = fcs(bytes);
     let second = bitwise::check(bytes);

@@ -4,6 +4,7 @@ use crate::known::verdict;
 use fcs::fcs::fcs;
 ghost use Prim.Native.Nat.{_≤_, _<_};
 
+// A line with its name, the count that is expected and the one that was got, and whether they are the same.
 pub fn line(name: &[u8], got: u16, expected: u16) {
     io::write_all(1, name);
     io::write_all(1, b": expected ");
@@ -24,6 +25,7 @@ fn agrees(bytes: &[u8]) -> u16
     }
 }
 
+// Of how many of the 256 lists of one byte both implementations answer the same.
 pub fn single_bytes() -> u16 {
     let mut count: u16 = 0;
     for b in 0..256u16 {
@@ -50,6 +52,7 @@ fn fill(list: &mut [u8], seed: u32) {
     }
 }
 
+// Of how many lengths, 0 to 600, both answer the same for a list of pseudo-random bytes.
 pub fn every_length() -> u16 {
     let mut list = [0u8; 600];
     let mut count: u16 = 0;
@@ -87,6 +90,7 @@ fn byte_flips(list: [u8; 510], at: usize, check: u16) -> u16
         + shows(list, at, 128, check)
 }
 
+// How many of the 4,080 single flips of a list of 510 pseudo-random bytes change its check.
 pub fn single_flips() -> u16 {
     let mut list = [0u8; 510];
     fill(&mut list, 1);

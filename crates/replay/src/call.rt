@@ -119,6 +119,7 @@ pub fn fed(line: Line) -> Fed {
     }
 }
 
+// The line with the eight bytes of the long address.
 fn address_long_value(d: Driver, out: &mut [u8], at: usize) -> usize {
     let address = get_address_long(d);
     bytes_value(out, at, &address)

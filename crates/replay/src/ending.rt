@@ -32,6 +32,7 @@ fn with_driver(places: [u8; 19]) -> u64 {
     count
 }
 
+// The buffers accepted, handed back and dropped by the book's counts, and how many are with the driver.
 fn book_line(book: Book, with: u64, out: &mut [u8], at: usize) -> usize {
     let a = text(out, at, b"book");
     let b = field(out, a, book.accepted);
@@ -41,20 +42,22 @@ fn book_line(book: Book, with: u64, out: &mut [u8], at: usize) -> usize {
     line_end(out, e)
 }
 
+// A word and the place of each of the 19 buffers.
 fn places_line(word: &[u8], places: [u8; 19], out: &mut [u8], at: usize) -> usize {
     let a = text(out, at, word);
     let b = byte_fields(out, a, &places);
     line_end(out, b)
 }
 
+// Writes the three lines behind the output that there is, and answers where they end.
 pub fn ending(run: Run, out: &mut [u8]) -> usize {
     let session = run.session;
     let driver = session.driver;
     let buffers = driver.buffers;
     let book = session.book;
     let places = book.places;
-    let places = record(buffers);
-    let a = book_line(book, with_driver(places), out, run.written);
+    let in_record = record(buffers);
+    let a = book_line(book, with_driver(in_record), out, run.written);
     let b = places_line(b"places", places, out, a);
-    places_line(b"record", places, out, b)
+    places_line(b"record", in_record, out, b)
 }

@@ -50,6 +50,7 @@ fn replay(traced: bool) {
     );
 }
 
+// Says on standard error how the program is called.
 fn usage() {
     io::write_all(
         STDERR_FILENO,
@@ -57,6 +58,7 @@ fn usage() {
     );
 }
 
+// Answers the script on standard input as the arguments ask, or says how the program is called.
 fn main() {
     match asked_for() {
         Asked::Text => replay(false),

@@ -72,6 +72,7 @@ fn write_call(
     fault_line(fault, out, b)
 }
 
+// The line that says that the book found a fault in the call; without a fault there is none.
 fn fault_line(fault: bool, out: &mut [u8], at: usize) -> usize {
     if fault {
         return text(out, at, b"fault\n");
@@ -137,6 +138,7 @@ pub fn malformed(run: Run, out: &mut [u8]) -> Run {
     next
 }
 
+// The calls from here on are lent so many bytes of the area.
 fn pool_length(run: Run, length: usize) -> Run {
     let mut session = run.session;
     session.length = length;
@@ -159,6 +161,7 @@ fn back(run: Run, area: &mut [u8], kept: &[u8]) -> Run {
     with_session(run, session)
 }
 
+// Writes the bytes that the line names into the area, from place `at` on.
 fn pool(run: Run, at: usize, bytes: &[u8], count: usize, area: &mut [u8]) -> Run {
     store(area, at, bytes, count);
     run

@@ -35,6 +35,7 @@ pub struct Run {
     pub trace: Trace,
 }
 
+// A new driver, with 129 bytes of spi_buf and channel 26, and a new book.
 fn first_session() -> Session {
     let out = new(129, 26);
     let driver = out.driver;
@@ -46,6 +47,7 @@ fn first_session() -> Session {
     }
 }
 
+// The run before its first line; until a `mark`, `back` returns to its first session.
 pub fn first_run(traced: bool) -> Run {
     let session = first_session();
     let trace = Trace {

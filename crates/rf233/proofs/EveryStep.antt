@@ -1,7 +1,6 @@
 -- What holds of every step that shows nothing, of every state's own case, and of a step that falls on into such a one, holds of every
 -- firing and of every completion (`every-firing`, `every-completion`). `completion-by` says the same with a fact G of the driver that a
--- case
--- may use: one that holds once the buffers are back, and that each phase keeps. Assumes nothing.
+-- case may use: one that holds once the buffers are back, and that each phase keeps. Assumes nothing.
 use mathlib.Core.Path.{_≡_, refl}
 use mathlib.Core.List.{[]}
 use lib.Dec.{T}

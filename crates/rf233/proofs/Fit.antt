@@ -32,25 +32,7 @@ use Rattle.rf233.specs.Rows.Row.{does}
 use Rattle.rf233.specs.Rows.Tree.{leaf, ask}
 use Rattle.rf233.specs.State.{stateNo, stateFrame}
 use Rattle.rf233.specs.declared.action.Action.{Action}
-use Rattle.rf233.specs.declared.action.Action.the-variants.{
-  Nothing,
-  Power,
-  Sent,
-  Received,
-  ConfigDone,
-  Dropped,
-  IrqMakeInput,
-  IrqClear,
-  IrqSetFloatingState,
-  IrqEnableInterrupts,
-  IrqDisableInterrupts,
-  SleepMakeOutput,
-  SleepSet,
-  SleepClear,
-  ResetMakeOutput,
-  ResetClear,
-  ResetSet,
-}
+use Rattle.rf233.specs.declared.action.Action.the-variants as action
 use Rattle.rf233.specs.declared.arrived.Arrived.{Arrived}
 use Rattle.rf233.specs.declared.driver.Driver.{Driver}
 use Rattle.rf233.specs.declared.driver.Under.{Under}
@@ -145,23 +127,23 @@ final x (putCrc ∷ more) v = final x more v
 
 -- an action that hands no buffer back
 abbrev pub harmless : Action → Bool
-harmless Nothing = true
-harmless (Power v) = true
-harmless (Sent b a e) = false
-harmless (Received b l v) = false
-harmless ConfigDone = true
-harmless (Dropped b) = false
-harmless IrqMakeInput = true
-harmless IrqClear = true
-harmless IrqSetFloatingState = true
-harmless IrqEnableInterrupts = true
-harmless IrqDisableInterrupts = true
-harmless SleepMakeOutput = true
-harmless SleepSet = true
-harmless SleepClear = true
-harmless ResetMakeOutput = true
-harmless (ResetClear n) = true
-harmless ResetSet = true
+harmless action.Nothing = true
+harmless (action.Power v) = true
+harmless (action.Sent b a e) = false
+harmless (action.Received b l v) = false
+harmless action.ConfigDone = true
+harmless (action.Dropped b) = false
+harmless action.IrqMakeInput = true
+harmless action.IrqClear = true
+harmless action.IrqSetFloatingState = true
+harmless action.IrqEnableInterrupts = true
+harmless action.IrqDisableInterrupts = true
+harmless action.SleepMakeOutput = true
+harmless action.SleepSet = true
+harmless action.SleepClear = true
+harmless action.ResetMakeOutput = true
+harmless (action.ResetClear n) = true
+harmless action.ResetSet = true
 
 -- the two places once a row's actions have handed back what they name; each must be there
 abbrev pub okShown : List Shown → Bool → Bool → Bool
@@ -304,7 +286,7 @@ pub row-fits : (a : Arrived) (d : Driver) (n : ℕ) (t r h : Bool) → T (fit no
 row-fits a d n t r h o =
     lift n t r a d (treeAt n) false (λ z. absurd z) (all-rows .gives nothing n t r (flag transmitting (d .flags)) h o tt)
 
--- The rest of the engine, and the calls, each by the same test.
+-- The phases of a completion, and the calls, each by the same test.
 
 -- an interrupt is handled
 pub to-handling : Follows resting (λ k n t r s h. fit access n t r s true)

@@ -38,6 +38,7 @@ abbrev pub firstServing : List Serves → ℤ → ℕ
 firstServing [] p = 0x0F
 firstServing (from least n ∷ more) p = cond (leZ least p) n (firstServing more p)
 
+-- the setting for a wish
 abbrev pub powerToSetting : ℤ → ℕ
 powerToSetting p = firstServing served p
 

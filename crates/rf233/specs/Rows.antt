@@ -1,7 +1,6 @@
 -- How a state's own case is written down (document 01, "What a step does"): a small decision tree, whose tests are named conditions and
--- whose
--- leaves are rows. A row says which flags are set, what is started, the next state, and the actions in order. The trees of the states stand
--- in Startup, Ready, Sleep, Transmit, Commit and Receive; Case has them all, and carries a row out.
+-- whose leaves are rows. A row says which flags are set, what is started, the next state, and the actions in order. The trees of the states
+-- stand in Startup, Ready, Sleep, Transmit, Commit and Receive; Case has them all, and carries a row out.
 use Prim.Native.Nat.{ℕ}
 use mathlib.Core.Bool.{Bool}
 use mathlib.Core.List.{List, [], _∷_}

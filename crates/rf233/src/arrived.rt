@@ -1,5 +1,6 @@
-// What a completion brings to a step: the status in its first byte, its second byte, and byte 1 of the receive buffer.
+// What a completion brings to a step.
 
+// The status in the first arrived byte, the second byte, and byte 1 of the receive buffer.
 pub struct Arrived {
     pub status: u8,
     pub result: u8,

@@ -115,8 +115,7 @@ fn state_bad(b: Buffers, state: InternalState) -> bool
 }
 
 // Whether refusal 12 describes the driver value. No place is counted: where no client's place names an own buffer, a buffer is recorded
-// twice
-// or nowhere exactly if two client's places name the same one or an own one is not where the transfer under way wants it.
+// twice or nowhere exactly if two client's places name the same one or an own one is not where the transfer under way wants it.
 pub fn is_described(d: Driver) -> bool
     ensures { λ r. ⌜ r ≡ described d ⌝ }
 {

@@ -13,6 +13,9 @@ use rf233_const::interrupt::interrupt_included;
 use rf233_const::register::RF233Register;
 use rf233_const::trx_state::RF233TrxCmd;
 ghost use mathlib.Core.Path.{_≡_};
+ghost use Rattle.rf233_const.specs.Bits.{bitSet};
+ghost use Rattle.rf233_const.specs.Interrupt.{interruptBit};
+ghost use Rattle.rf233.specs.Choice.{pick};
 ghost use Rattle.rf233.specs.Interrupt.{handleInterrupt, interruptState};
 
 // The firing itself: IRQ_STATUS is read, unless a transfer is under way. In RX reception is turned off first, so that the frame is not
@@ -35,6 +38,22 @@ pub fn handle_interrupt(d: Driver) -> Outcome
     stay(with_flags(d, flags))
 }
 
+// The first state where IRQ_STATUS has the flag, else the second.
+fn state_if(
+    result: u8,
+    flag: InteruptFlags,
+    first: InternalState,
+    second: InternalState,
+) -> InternalState
+    ensures { λ r. ⌜ r ≡ pick (bitSet (interruptBit flag) result) first second ⌝ }
+{
+    if interrupt_included(result, flag) {
+        first
+    } else {
+        second
+    }
+}
+
 // The state that the interrupt leads to.
 pub fn interrupt_state(state: InternalState, a: Arrived) -> InternalState
     ensures { λ r. ⌜ r ≡ interruptState a state ⌝ }
@@ -44,18 +63,18 @@ pub fn interrupt_state(state: InternalState, a: Arrived) -> InternalState
         return InternalState::RX;
     }
     match state {
-        InternalState::ON_PLL_WAITING => {
-            if interrupt_included(result, InteruptFlags::IRQ_0_PLL_LOCK) {
-                return InternalState::ON_PLL_SET;
-            }
-            state
-        }
-        InternalState::TX_TRANSMITTING => {
-            if interrupt_included(result, InteruptFlags::IRQ_3_TRX_END) {
-                return InternalState::TX_DONE;
-            }
-            state
-        }
+        InternalState::ON_PLL_WAITING => state_if(
+            result,
+            InteruptFlags::IRQ_0_PLL_LOCK,
+            InternalState::ON_PLL_SET,
+            state,
+        ),
+        InternalState::TX_TRANSMITTING => state_if(
+            result,
+            InteruptFlags::IRQ_3_TRX_END,
+            InternalState::TX_DONE,
+            state,
+        ),
         _ => state,
     }
 }

@@ -20,6 +20,7 @@ ghost use Rattle.rf233.specs.Case.{ownCase};
 ghost use Rattle.rf233.specs.Ready.{powerTold};
 ghost use Rattle.rf233.specs.State.{stateNo};
 
+// The case of READY.
 pub fn ready_case(d: Driver, a: Arrived) -> Outcome
     requires { ⌜ stateNo (d .state) ≡ 29 ⌝ }
     ensures { λ r. ⌜ r ≡ ownCase a d ⌝ }

@@ -29,6 +29,7 @@ ghost use Rattle.rf233.specs.Choice.{oneOf};
 ghost use Rattle.rf233.specs.Receive.{onwardRead, received};
 ghost use Rattle.rf233.specs.State.{stateNo};
 
+// The case of each of these states that does something.
 pub fn receive_case(d: Driver, a: Arrived) -> Outcome
     requires { ⌜ oneOf (60 ∷ 62 ∷ 64 ∷ 66 ∷ 67 ∷ 68 ∷ []) (stateNo (d .state)) ≡ true ⌝ }
     ensures { λ r. ⌜ r ≡ ownCase a d ⌝ }

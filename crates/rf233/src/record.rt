@@ -16,7 +16,7 @@ pub fn is_held(slot: Slot) -> bool
     }
 }
 
-// The buffer in a place; an empty place is never asked.
+// The buffer in a place, where the Rust says `unwrap`: the place is full wherever a step asks (`unwrap-holds` in proofs/FullPlace.antt).
 pub fn buffer_in(slot: Slot) -> u8
     ensures { λ r. ⌜ r ≡ bufferIn slot ⌝ }
 {

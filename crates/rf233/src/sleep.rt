@@ -21,6 +21,7 @@ ghost use Rattle.rf233.specs.Case.{ownCase};
 ghost use Rattle.rf233.specs.Choice.{oneOf};
 ghost use Rattle.rf233.specs.State.{stateNo};
 
+// The case of each of these states.
 pub fn sleep_case(d: Driver, a: Arrived) -> Outcome
     requires { ⌜ oneOf (30 ∷ 32 ∷ []) (stateNo (d .state)) ≡ true ⌝ }
     ensures { λ r. ⌜ r ≡ ownCase a d ⌝ }

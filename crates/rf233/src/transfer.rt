@@ -116,7 +116,7 @@ pub(crate) fn refrain(d: Driver) -> Started
     }
 }
 
-// A frame read of n bytes into the receive buffer.
+// A frame read of n bytes into the receive buffer. A step that asks for one finds it held (`unwrap-holds` in proofs/FullPlace.antt).
 pub(crate) fn frame_read(d: Driver, n: u8) -> Started
     ensures { λ r. ⌜ r ≡ frameRead n d ⌝ }
 {
@@ -154,7 +154,7 @@ fn frame_read_into(d: Driver, buffer: u8, length: u8, n: u8) -> Started
     refrain(d)
 }
 
-// A frame write of the transmit buffer, whose n `transmit` left in the driver.
+// A frame write of the transmit buffer, whose n `transmit` left in the driver. A step that asks for one finds it held, likewise.
 pub(crate) fn frame_write(d: Driver) -> Started
     ensures { λ r. ⌜ r ≡ frameWrite d ⌝ }
 {

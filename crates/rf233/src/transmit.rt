@@ -32,6 +32,7 @@ ghost use Rattle.rf233.specs.Choice.{oneOf};
 ghost use Rattle.rf233.specs.State.{stateNo};
 ghost use Rattle.rf233.specs.Transmit.{sendDone};
 
+// The case of each of these states that does something.
 pub fn transmit_case(d: Driver, a: Arrived) -> Outcome
     requires { ⌜ oneOf (33 ∷ 35 ∷ 36 ∷ 37 ∷ 38 ∷ 39 ∷ 41 ∷ 42 ∷ 43 ∷ []) (stateNo (d .state)) ≡ true ⌝ }
     ensures { λ r. ⌜ r ≡ ownCase a d ⌝ }

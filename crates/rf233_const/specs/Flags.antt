@@ -9,6 +9,7 @@ use Rattle.rf233_const.specs.declared.flags.RegisterFlags.{RegisterFlags
 abbrev pub rxCrcValidBit : ℕ
 rxCrcValidBit = 7
 
+-- The flags of registers that the driver names, each by its bits.
 abbrev pub registerFlags : RegisterFlags
 registerFlags =
     record {

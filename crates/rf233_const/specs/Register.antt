@@ -58,6 +58,7 @@ use Rattle.rf233_const.specs.declared.register.RF233Register.the-variant
   MAX,
 }
 
+-- The address of each register.
 abbrev pub registerAddress : RF233Register → ℕ
 registerAddress MIN = 0x00
 registerAddress «TRX_STATUS» = 0x01

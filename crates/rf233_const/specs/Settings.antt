@@ -6,6 +6,7 @@ use Rattle.rf233_const.specs.Bits.{fieldAt}
 use Rattle.rf233_const.specs.declared.settings.StartupValues.{StartupValues}
 use Rattle.rf233_const.specs.declared.settings.DefaultAddresses.{DefaultAddresses}
 
+-- The constants that startup writes.
 abbrev pub startupValues : StartupValues
 startupValues =
     record {
@@ -30,6 +31,7 @@ startupValues =
       «trx_rpc» = fieldAt 0 0xFF;
     }
 
+-- The default addresses.
 abbrev pub defaultAddresses : DefaultAddresses
 defaultAddresses =
     record {

@@ -24,12 +24,14 @@ commandValue «TX_ARET_ON» = 0x19
 abbrev pub tracBits : ℕ → ℕ
 tracBits result = fieldAt 5 (bitField 5 3 result)
 
--- The values of TRAC_STATUS that the driver tells apart or names, at that place.
+-- SUCCESS, the first of the values of TRAC_STATUS that the driver tells apart or names, at that place.
 abbrev pub tracSuccess : ℕ
 tracSuccess = fieldAt 5 0
 
+-- SUCCESS_DATA_PENDING.
 abbrev pub tracSuccessDataPending : ℕ
 tracSuccessDataPending = fieldAt 5 1
 
+-- CHANNEL_ACCESS_FAILURE.
 abbrev pub tracChannelAccessFailure : ℕ
 tracChannelAccessFailure = fieldAt 5 3

@@ -3,48 +3,70 @@ ghost use mathlib.Core.Path.{_≡_};
 ghost use Rattle.rf233_const.specs.Bits.{bitSet};
 ghost use Rattle.rf233_const.specs.Flags.{registerFlags, rxCrcValidBit};
 
+// The pins DIG3 and DIG4 show whether the radio transmits, to control an external front end (PA_EXT_EN).
 pub const TRX_CTRL_1_DIG34_RXTX_INDICATOR: u8 = 1 << 7;
 
+// The first byte that arrives in every SPI access shows TRX_STATUS (SPI_CMD_MODE 1).
 pub const TRX_CTRL_1_SPI_CMD_TRX_STATUS: u8 = 1 << 2;
 
+// The radio computes and appends the frame check.
 pub const TRX_CTRL_1_AUTO_CRC: u8 = 1 << 5;
 
+// The transmit power is 4 dBm, the highest that there is.
 pub const PHY_TX_PWR_4: u8 = 0;
 
+// The channel is busy where there is a carrier or energy above the threshold.
 pub const PHY_CC_CCA_MODE_CS_OR_ED: u8 = 0 << 5;
 
+// The channel is busy where there is energy above the threshold.
 pub const PHY_CC_CCA_MODE_ED: u8 = 1 << 5;
 
+// The channel is busy where there is a carrier, whatever its energy.
 pub const PHY_CC_CCA_MODE_CS: u8 = 2 << 5;
 
+// The channel is busy where there is a carrier with energy above the threshold.
 pub const PHY_CC_CCA_MODE_CS_AND_ED: u8 = 3 << 5;
 
+// The check of the last frame received was valid.
 pub const PHY_RSSI_RX_CRC_VALID: u8 = 1 << 7;
 
+// A received frame is protected from being overwritten by the next until it has been read.
 pub const TRX_CTRL_2_RX_SAFE_MODE: u8 = 1 << 7;
 
+// The data rate is 250 kb/s, that of IEEE 802.15.4.
 pub const TRX_CTRL_2_DATA_RATE_250: u8 = 0;
 
+// The interrupt of an access violation of the frame buffer (TRX_UR).
 pub const IRQ_TRXBUF_ACCESS_VIOLATION: u8 = 1 << 6;
 
+// The interrupt at the end of a reception or of a transmission (TRX_END).
 pub const IRQ_TRX_DONE: u8 = 1 << 3;
 
+// The interrupt at the start of the reception of a frame.
 pub const IRQ_RX_START: u8 = 1 << 2;
 
+// The interrupt that says that the PLL has locked.
 pub const IRQ_PLL_LOCK: u8 = 1 << 0;
 
+// Promiscuous mode: every frame received is reported, whatever its address and its check.
 pub const XAH_CTRL_1_AACK_PROM_MODE: u8 = 1 << 1;
 
+// Received frames of a reserved type are reported too, where their check is valid.
 pub const XAH_CTRL_1_AACK_UPLD_RES_FT: u8 = 1 << 4;
 
+// Received frames of a reserved type go through the address filter as data frames do.
 pub const XAH_CTRL_1_AACK_FLTR_RES_FT: u8 = 1 << 5;
 
+// Frames are acknowledged whatever their frame version is.
 pub const AACK_FVN_MODE: u8 = 3 << 6;
 
+// The bits of TRX_STATE that hold the result of a transmission (TRAC_STATUS).
 pub const TRX_TRAC_MASK: u8 = 0xE0;
 
+// The frame was acknowledged, and the acknowledgment says that data is pending.
 pub const TRX_TRAC_SUCCESS_DATA_PENDING: u8 = 1 << 5;
 
+// The frame was not sent, because the channel was busy at every attempt.
 pub const TRX_TRAC_CHANNEL_ACCESS_FAILURE: u8 = 3 << 5;
 
 // Every flag above, so that one promise speaks of them all.
@@ -73,6 +95,7 @@ pub struct RegisterFlags {
     pub trx_trac_channel_access_failure: u8,
 }
 
+// The constants above, each in the field of its name.
 pub fn register_flags() -> RegisterFlags
     ensures { λ r. ⌜ r ≡ registerFlags ⌝ }
 {

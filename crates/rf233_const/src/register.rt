@@ -3,6 +3,7 @@ ghost use mathlib.Core.Path.{_≡_};
 ghost use Prim.Native.Nat.{_<_, _^_};
 ghost use Rattle.rf233_const.specs.Register.{registerAddress};
 
+// The registers in the order of their addresses; MIN and MAX are the Rust's bounds of the address range.
 pub enum RF233Register {
     MIN,
     TRX_STATUS,

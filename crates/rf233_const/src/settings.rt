@@ -22,52 +22,72 @@ pub const TRX_CTRL_1: u8 = TRX_CTRL_1_DIG34_RXTX_INDICATOR
     | TRX_CTRL_1_SPI_CMD_TRX_STATUS
     | TRX_CTRL_1_AUTO_CRC;
 
+// A received frame is protected until it has been read; the data rate is 250 kb/s.
 pub const TRX_CTRL_2: u8 = TRX_CTRL_2_RX_SAFE_MODE | TRX_CTRL_2_DATA_RATE_250;
 
+// The default channel, busy where there is a carrier or energy above the threshold; the driver does not use it.
 pub const PHY_CC_CCA: u8 = DEFAULT_PHY_CHANNEL | PHY_CC_CCA_MODE_CS_OR_ED;
 
+// The default transmit power of 4 dBm.
 pub const PHY_TX_PWR: u8 = PHY_TX_PWR_4;
 
+// The default channel, the last of 11 to 26.
 pub const DEFAULT_PHY_CHANNEL: u8 = 26;
 
+// Lets through frame buffer violations, the end of a frame, the lock of the PLL and the start of a reception.
 pub const IRQ_MASK: u8 = IRQ_TRXBUF_ACCESS_VIOLATION | IRQ_TRX_DONE | IRQ_PLL_LOCK | IRQ_RX_START;
 
+// Reserved frame types are reported and filtered as data frames are, and promiscuous mode is on.
 pub const XAH_CTRL_1: u8 = XAH_CTRL_1_AACK_UPLD_RES_FT
     | XAH_CTRL_1_AACK_FLTR_RES_FT
     | XAH_CTRL_1_AACK_PROM_MODE;
 
+// No retries of a frame, no retries of CSMA-CA, and unslotted operation.
 pub const XAH_CTRL_0: u8 = 0;
 
 // The Rust adds the two at the place where it writes them: they are the default address, not the present one.
 pub const CSMA_SEED_0: u8 = SHORT_ADDR_0 + SHORT_ADDR_1;
 
+// Frames of every version are acknowledged; the high bits of the seed are 0.
 pub const CSMA_SEED_1: u8 = AACK_FVN_MODE;
 
+// Every mode of reduced power consumption is on.
 pub const TRX_RPC: u8 = 0xFF;
 
 // Default address settings.
 pub const PAN_ID_0: u8 = 0x22;
 
+// The high byte of the default PAN.
 pub const PAN_ID_1: u8 = 0x22;
 
+// Byte 0 of the default long address, the lowest.
 pub const IEEE_ADDR_0: u8 = 0x11;
 
+// Byte 1 of the default long address.
 pub const IEEE_ADDR_1: u8 = 0x22;
 
+// Byte 2 of the default long address.
 pub const IEEE_ADDR_2: u8 = 0x33;
 
+// Byte 3 of the default long address.
 pub const IEEE_ADDR_3: u8 = 0x44;
 
+// Byte 4 of the default long address.
 pub const IEEE_ADDR_4: u8 = 0x55;
 
+// Byte 5 of the default long address.
 pub const IEEE_ADDR_5: u8 = 0x66;
 
+// Byte 6 of the default long address.
 pub const IEEE_ADDR_6: u8 = 0x77;
 
+// Byte 7 of the default long address, the highest.
 pub const IEEE_ADDR_7: u8 = 0x88;
 
+// The low byte of the default short address.
 pub const SHORT_ADDR_0: u8 = 0x11;
 
+// The high byte of the default short address.
 pub const SHORT_ADDR_1: u8 = 0x22;
 
 // The value of each register that is set to a constant at startup, or has a default.
@@ -92,6 +112,7 @@ pub struct DefaultAddresses {
     pub short_addr: [u8; 2],
 }
 
+// The settings above, each in the field of its name.
 pub fn startup_values() -> StartupValues
     ensures { λ r. ⌜ r ≡ startupValues ⌝ }
 {
@@ -110,6 +131,7 @@ pub fn startup_values() -> StartupValues
     }
 }
 
+// The bytes of the default addresses above, each address from its low byte on.
 pub fn default_addresses() -> DefaultAddresses
     ensures { λ r. ⌜ r ≡ defaultAddresses ⌝ }
 {

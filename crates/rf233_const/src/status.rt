@@ -22,6 +22,7 @@ pub enum ExternalState {
 // The bits of a status byte that hold the state.
 pub const TRX_STATUS_MASK: u8 = 0x1F;
 
+// The value that TRX_STATUS has in the state.
 pub fn external_state_number(state: ExternalState) -> u8
     ensures { λ r. ⌜ r ≡ statusValue state ⌝ }
 {

@@ -59,6 +59,7 @@ pub(crate) fn flag(line: &[u8], at: usize, one: Line, nought: Line) -> Line {
     if w.value == 1 { one } else { nought }
 }
 
+// `new`: the length of spi_buf, and a channel of one byte.
 pub(crate) fn new_line(line: &[u8], at: usize) -> Line {
     let length = number(line, at, ANY);
     let channel = last_number(line, length.end, 255);
@@ -68,6 +69,7 @@ pub(crate) fn new_line(line: &[u8], at: usize) -> Line {
     Line::Malformed
 }
 
+// `transmit`: the buffer, its length and the frame's length, each any number.
 pub(crate) fn transmit_line(line: &[u8], at: usize) -> Line {
     let buffer = number(line, at, ANY);
     let length = number(line, buffer.end, ANY);
@@ -78,6 +80,7 @@ pub(crate) fn transmit_line(line: &[u8], at: usize) -> Line {
     Line::Malformed
 }
 
+// `set_receive_buffer`: the buffer and its length, each any number.
 pub(crate) fn receive_buffer_line(line: &[u8], at: usize) -> Line {
     let buffer = number(line, at, ANY);
     let length = last_number(line, buffer.end, ANY);
@@ -87,6 +90,7 @@ pub(crate) fn receive_buffer_line(line: &[u8], at: usize) -> Line {
     Line::Malformed
 }
 
+// `read_write_done`: the bytes that arrived, at most 160.
 pub(crate) fn done_line(line: &[u8], at: usize, bytes: &mut [u8]) -> Line {
     match byte_words(line, at, MOST_ARRIVED, bytes) {
         Count::Bytes(n) => Line::ReadWriteDone(n),
@@ -94,6 +98,7 @@ pub(crate) fn done_line(line: &[u8], at: usize, bytes: &mut [u8]) -> Line {
     }
 }
 
+// `set_address`: a number of 16 bits.
 pub(crate) fn address_line(line: &[u8], at: usize) -> Line {
     let w = last_number(line, at, 65535);
     if w.good {
@@ -102,6 +107,7 @@ pub(crate) fn address_line(line: &[u8], at: usize) -> Line {
     Line::Malformed
 }
 
+// `set_pan`: a number of 16 bits.
 pub(crate) fn pan_line(line: &[u8], at: usize) -> Line {
     let w = last_number(line, at, 65535);
     if w.good {
@@ -110,6 +116,7 @@ pub(crate) fn pan_line(line: &[u8], at: usize) -> Line {
     Line::Malformed
 }
 
+// `set_address_long`: eight bytes, no fewer and no more.
 pub(crate) fn address_long_line(line: &[u8], at: usize, bytes: &mut [u8]) -> Line {
     match byte_words(line, at, 8, bytes) {
         Count::Bytes(n) => if n == 8 {
@@ -158,6 +165,7 @@ pub(crate) fn power_line(line: &[u8], at: usize) -> Line {
     Line::Malformed
 }
 
+// `set_channel`: a number of one byte, which the driver may still refuse.
 pub(crate) fn channel_line(line: &[u8], at: usize) -> Line {
     let w = last_number(line, at, 255);
     if w.good {
@@ -166,6 +174,7 @@ pub(crate) fn channel_line(line: &[u8], at: usize) -> Line {
     Line::Malformed
 }
 
+// `pool`: a place in the area, and bytes that do not go past the area's end.
 pub(crate) fn pool_line(line: &[u8], at: usize, bytes: &mut [u8]) -> Line {
     let w = number(line, at, AREA);
     if !w.good {
@@ -177,6 +186,7 @@ pub(crate) fn pool_line(line: &[u8], at: usize, bytes: &mut [u8]) -> Line {
     }
 }
 
+// `pool_length`: a number of bytes, at most the whole area.
 pub(crate) fn pool_length_line(line: &[u8], at: usize) -> Line {
     let w = last_number(line, at, AREA);
     if w.good {

@@ -68,6 +68,7 @@ fn call(line: &[u8], name: &[u8], bytes: &mut [u8]) -> Line {
     setting(line, name, bytes)
 }
 
+// The settings: the addresses, the PAN, the power and the channel.
 fn setting(line: &[u8], name: &[u8], bytes: &mut [u8]) -> Line {
     let at = name.len();
     if same(name, b"set_address") {
@@ -88,6 +89,7 @@ fn setting(line: &[u8], name: &[u8], bytes: &mut [u8]) -> Line {
     listener(line, name, bytes)
 }
 
+// The lines that say whether a listener is there.
 fn listener(line: &[u8], name: &[u8], bytes: &mut [u8]) -> Line {
     let at = name.len();
     if same(name, b"set_power_client") {
@@ -125,6 +127,7 @@ fn listener(line: &[u8], name: &[u8], bytes: &mut [u8]) -> Line {
     query(line, name, bytes)
 }
 
+// The calls that return a value, and `initialize`.
 fn query(line: &[u8], name: &[u8], bytes: &mut [u8]) -> Line {
     let at = name.len();
     if same(name, b"initialize") {

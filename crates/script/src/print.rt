@@ -1,6 +1,7 @@
 // Text laid into a lent buffer. Each function is given the place to write at, and answers the place after what it wrote; past the
 // buffer's end nothing is written.
 
+// Writes one byte, where there is room for it.
 pub fn byte(out: &mut [u8], at: usize, b: u8) -> usize {
     if at < out.len() {
         out[at] = b;
@@ -9,6 +10,7 @@ pub fn byte(out: &mut [u8], at: usize, b: u8) -> usize {
     at
 }
 
+// Writes the bytes of a word, one after another.
 pub fn text(out: &mut [u8], at: usize, word: &[u8]) -> usize {
     let mut end = at;
     let mut i = 0;
@@ -73,6 +75,7 @@ pub fn byte_fields(out: &mut [u8], at: usize, bytes: &[u8]) -> usize {
     end
 }
 
+// A line feed.
 pub fn line_end(out: &mut [u8], at: usize) -> usize {
     byte(out, at, b'\n')
 }

@@ -20,6 +20,7 @@ pub fn head(out: &mut [u8], at: usize, place: u64, answer: u8, from: u8, to: u8)
     line_end(out, d)
 }
 
+// The start of a transfer's line: its kind, and the lengths of its two buffers.
 fn kind_and_lengths(out: &mut [u8], at: usize, t: Transfer) -> usize {
     let a = text(out, at, b"transfer");
     let b = byte_field(out, a, t.kind);
@@ -42,12 +43,14 @@ pub fn transfer(out: &mut [u8], at: usize, t: Transfer, pool: &[u8]) -> usize {
     line_end(out, b)
 }
 
+// `power ON`, the notice to the power listener.
 fn power(out: &mut [u8], at: usize, on: bool) -> usize {
     let a = text(out, at, b"power");
     let b = flag_field(out, a, on);
     line_end(out, b)
 }
 
+// `sent BUFFER ACK FAIL`, the notice to the transmit listener.
 fn sent(out: &mut [u8], at: usize, buffer: u8, ack: bool, fail: bool) -> usize {
     let a = text(out, at, b"sent");
     let b = byte_field(out, a, buffer);
@@ -56,6 +59,7 @@ fn sent(out: &mut [u8], at: usize, buffer: u8, ack: bool, fail: bool) -> usize {
     line_end(out, d)
 }
 
+// `received BUFFER LENGTH CRC`, the notice to the receive listener.
 fn received(out: &mut [u8], at: usize, buffer: u8, length: u8, crc: bool) -> usize {
     let a = text(out, at, b"received");
     let b = byte_field(out, a, buffer);
@@ -64,12 +68,14 @@ fn received(out: &mut [u8], at: usize, buffer: u8, length: u8, crc: bool) -> usi
     line_end(out, d)
 }
 
+// A line of a word and a number.
 fn word_and_number(out: &mut [u8], at: usize, word: &[u8], number: u64) -> usize {
     let a = text(out, at, word);
     let b = field(out, a, number);
     line_end(out, b)
 }
 
+// The line of an action; `Nothing` has none.
 pub fn action(out: &mut [u8], at: usize, a: Action) -> usize {
     match a {
         Action::Nothing => at,
@@ -92,6 +98,7 @@ pub fn action(out: &mut [u8], at: usize, a: Action) -> usize {
     }
 }
 
+// The lines of a call's actions, in order.
 pub fn actions(out: &mut [u8], at: usize, list: Actions) -> usize {
     let items = list.items;
     let mut end = at;
@@ -110,18 +117,21 @@ pub fn number_value(out: &mut [u8], at: usize, value: u64) -> usize {
     word_and_number(out, at, b"value", value)
 }
 
+// `value N` of a bool, 1 or 0.
 pub fn flag_value(out: &mut [u8], at: usize, value: bool) -> usize {
     let a = text(out, at, b"value");
     let b = flag_field(out, a, value);
     line_end(out, b)
 }
 
+// `value N` of a power, which may be negative.
 pub fn signed_value(out: &mut [u8], at: usize, value: i8) -> usize {
     let a = text(out, at, b"value");
     let b = signed_field(out, a, value);
     line_end(out, b)
 }
 
+// `value BYTE...` of the bytes, in order.
 pub fn bytes_value(out: &mut [u8], at: usize, bytes: &[u8]) -> usize {
     let a = text(out, at, b"value");
     let b = byte_fields(out, a, bytes);

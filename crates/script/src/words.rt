@@ -33,6 +33,7 @@ pub fn word_end(line: &[u8], from: usize) -> usize
     line.len()
 }
 
+// No number: `good` is false.
 fn no_decimal() -> Decimal
     ensures { λ r. ⌜ r ≡ noDecimal ⌝ }
 {
@@ -42,6 +43,7 @@ fn no_decimal() -> Decimal
     }
 }
 
+// A byte as a number of 64 bits.
 fn wide(byte: u8) -> u64
     ensures { λ r. ⌜ r ≡ byte ⌝ }
 {

@@ -7,6 +7,7 @@ use script::print::byte;
 use script::print::decimal;
 use script::print::text;
 
+// The place of the action's name in the list of names.
 fn action_number(a: Action) -> u8 {
     match a {
         Action::Nothing => 0,
@@ -29,6 +30,7 @@ fn action_number(a: Action) -> u8 {
     }
 }
 
+// Name i of the list: notices by their names, the others by pin and what is asked of it.
 fn action_name(out: &mut [u8], at: usize, i: u8) -> usize {
     nth(
         out,
@@ -46,6 +48,7 @@ fn value(out: &mut [u8], at: usize, number: u64) -> usize {
     byte(out, b, b')')
 }
 
+// Whether the radio is on or off, in brackets.
 fn power_values(out: &mut [u8], at: usize, on: bool) -> usize {
     if on {
         return text(out, at, b"(on)");
@@ -53,6 +56,7 @@ fn power_values(out: &mut [u8], at: usize, on: bool) -> usize {
     text(out, at, b"(off)")
 }
 
+// That the frame failed, or else whether it was acknowledged, in brackets.
 fn sent_values(out: &mut [u8], at: usize, ack: bool, fail: bool) -> usize {
     if fail {
         return text(out, at, b"(FAIL)");
@@ -63,6 +67,7 @@ fn sent_values(out: &mut [u8], at: usize, ack: bool, fail: bool) -> usize {
     text(out, at, b"(no ack)")
 }
 
+// The frame's length and whether its CRC was valid, in brackets.
 fn received_values(out: &mut [u8], at: usize, length: u8, crc: bool) -> usize {
     let a = text(out, at, b"(length ");
     let b = decimal(out, a, length as u64);
@@ -72,6 +77,7 @@ fn received_values(out: &mut [u8], at: usize, length: u8, crc: bool) -> usize {
     text(out, b, b", crc invalid)")
 }
 
+// The values of an action, without its buffer.
 fn action_values(out: &mut [u8], at: usize, a: Action) -> usize {
     match a {
         Action::Power(on) => power_values(out, at, on),
@@ -82,6 +88,7 @@ fn action_values(out: &mut [u8], at: usize, a: Action) -> usize {
     }
 }
 
+// A space, the action's name and its values; nothing for no action.
 fn action(out: &mut [u8], at: usize, a: Action) -> usize {
     let i = action_number(a);
     if i == 0 {

@@ -16,6 +16,7 @@ use crate::situation::first_name;
 use script::print::decimal;
 use script::print::text;
 
+// The node of a state, labelled with its number and name.
 fn node(out: &mut [u8], at: usize, n: u8) -> usize {
     let a = text(out, at, b"    ");
     let b = decimal(out, a, n as u64);
@@ -44,6 +45,7 @@ fn cluster_node(out: &mut [u8], at: usize, first: u8, n: u8) -> usize {
     at
 }
 
+// The nodes of all states of the cluster whose first state this is.
 fn cluster_nodes(out: &mut [u8], at: usize, first: u8) -> usize {
     let mut end = at;
     let mut n: u8 = 0;
@@ -65,6 +67,7 @@ fn cluster(out: &mut [u8], at: usize, first: u8, title: &[u8]) -> usize {
     text(out, f, b"  }\n")
 }
 
+// The six clusters, each under its title.
 fn clusters(out: &mut [u8], at: usize) -> usize {
     let a = cluster(out, at, 0, b"startup");
     let b = cluster(out, a, 29, b"ready");
@@ -183,6 +186,7 @@ fn condition_label(out: &mut [u8], at: usize, n: u8, c: u8) -> usize {
     text(out, a, b"\\n")
 }
 
+// The step of state n in situation c starts a transfer.
 fn starts(n: u8, c: u8) -> bool {
     let o = outcome_of(n, c);
     let reply = o.reply;
@@ -196,6 +200,7 @@ fn moves(n: u8, c: u8) -> bool {
     started | (next_of(n, c) != n)
 }
 
+// The arrow of state n in condition c, where it moves and no earlier condition has the same arrow.
 fn condition_arrow(out: &mut [u8], at: usize, n: u8, c: u8) -> usize {
     if moves(n, c) & is_first(n, c, true) {
         let a = arrow_start(out, at, n, next_of(n, c));
@@ -205,6 +210,7 @@ fn condition_arrow(out: &mut [u8], at: usize, n: u8, c: u8) -> usize {
     at
 }
 
+// The arrows of a state's completions, for each condition.
 fn state_arrows(out: &mut [u8], at: usize, n: u8) -> usize {
     let mut end = at;
     let mut c: u8 = 0;
@@ -215,6 +221,7 @@ fn state_arrows(out: &mut [u8], at: usize, n: u8) -> usize {
     end
 }
 
+// The arrows of the completions of all 69 states.
 fn completions(out: &mut [u8], at: usize) -> usize {
     let mut end = at;
     let mut n: u8 = 0;
@@ -225,6 +232,7 @@ fn completions(out: &mut [u8], at: usize) -> usize {
     end
 }
 
+// The name of the situation in the arrow's label, and the rest of the arrow.
 fn event_label(out: &mut [u8], at: usize, n: u8, c: u8) -> usize {
     let a = first_name(out, at, c);
     let b = text(out, a, b"\\n");
@@ -248,6 +256,7 @@ fn is_drawn(n: u8, c: u8, to: u8) -> bool {
     (to == next_of(n, 0)) | (waited & (to == next_of(n, AT_REST)))
 }
 
+// The arrow of an exception, where it leads to another state and is not there already.
 fn exception_arrow(out: &mut [u8], at: usize, n: u8, c: u8) -> usize {
     let to = next_of(n, c);
     let drawn = is_drawn(n, c, to);
@@ -258,6 +267,7 @@ fn exception_arrow(out: &mut [u8], at: usize, n: u8, c: u8) -> usize {
     at
 }
 
+// The arrows of situation c in all states that are exceptions to it.
 fn exceptions(out: &mut [u8], at: usize, c: u8) -> usize {
     let mut end = at;
     let mut n: u8 = 0;
@@ -268,6 +278,7 @@ fn exceptions(out: &mut [u8], at: usize, c: u8) -> usize {
     end
 }
 
+// The arrows of interrupts, firings and calls, but for those that come during a register transfer.
 fn events(out: &mut [u8], at: usize) -> usize {
     let mut end = at;
     let mut c: u8 = NO_INTERRUPT;
@@ -279,6 +290,7 @@ fn events(out: &mut [u8], at: usize) -> usize {
     end
 }
 
+// The whole graph: its settings, the clusters, the arrows and a line that says what the colours mean.
 pub fn graph(out: &mut [u8]) -> usize {
     let a = text(
         out,

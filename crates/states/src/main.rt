@@ -32,18 +32,21 @@ fn asked_for() -> Asked {
     Asked::Unknown
 }
 
+// Writes the table to standard output.
 fn write_table() {
     let mut out = io::large_buffer();
     let n = table::table(&mut out);
     stdio::streams::write_first(&out, n);
 }
 
+// Writes the graph to standard output.
 fn write_graph() {
     let mut out = io::large_buffer();
     let n = graph::graph(&mut out);
     stdio::streams::write_first(&out, n);
 }
 
+// Says on standard error how the program is called.
 fn usage() {
     io::write_all(
         STDERR_FILENO,
@@ -51,6 +54,7 @@ fn usage() {
     );
 }
 
+// Writes what the arguments ask for, or says how the program is called.
 fn main() {
     match asked_for() {
         Asked::Lines => write_table(),

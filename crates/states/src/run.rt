@@ -30,21 +30,25 @@ fn completed(d: Driver, c: u8) -> Outcome {
     read_write_done(d, &arrived, &mut pool)
 }
 
+// The interrupt pin fires.
 fn fired(d: Driver) -> Outcome {
     let mut pool = new_pool();
     fire(d, &mut pool)
 }
 
+// A client calls `start`.
 fn started(d: Driver) -> Outcome {
     let mut pool = new_pool();
     start(d, &mut pool)
 }
 
+// A client calls `stop`.
 fn stopped(d: Driver) -> Outcome {
     let mut pool = new_pool();
     stop(d, &mut pool)
 }
 
+// A client calls `config_commit`.
 fn committed(d: Driver) -> Outcome {
     let mut pool = new_pool();
     config_commit(d, &mut pool)
@@ -56,6 +60,7 @@ fn transmitted(d: Driver) -> Outcome {
     transmit(d, 0, 130, 20, &mut pool)
 }
 
+// What the step of state n in situation c yields: a completion below AT_REST, from there on a firing or a call.
 pub fn outcome_of(n: u8, c: u8) -> Outcome {
     let d = driver_in(n, c);
     if c < AT_REST {

@@ -10,6 +10,7 @@ use crate::situation::further_name;
 // The state that stands for every other one where states are compared.
 pub const ANY: u8 = 1;
 
+// State n in situation c and state m in situation e have the same columns.
 fn same_columns(n: u8, c: u8, m: u8, e: u8) -> bool {
     let mut a = [0u8; 256];
     let mut b = [0u8; 256];
@@ -18,6 +19,7 @@ fn same_columns(n: u8, c: u8, m: u8, e: u8) -> bool {
     check::same(&a, &b)
 }
 
+// Situations c and e of state n lead to the same next state with the same transfer.
 fn same_arrow(n: u8, c: u8, e: u8) -> bool {
     let mut a = [0u8; 256];
     let mut b = [0u8; 256];

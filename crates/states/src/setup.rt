@@ -44,6 +44,7 @@ fn is_on(n: u8, c: u8) -> bool {
     !off & (((29 <= n) & !sleeps) | (AT_REST <= c))
 }
 
+// The flags that the state brings along, and those that the situation sets.
 fn flags(n: u8, c: u8) -> Flags {
     let on = is_on(n, c);
     let transmits = (33 <= n) & (n <= 44) & (c < AT_REST) & (c != 37);
@@ -65,6 +66,7 @@ fn flags(n: u8, c: u8) -> Flags {
     }
 }
 
+// Every listener is there; in the situations of no_listener none is.
 fn clients(c: u8) -> Clients {
     let absent = (c == 28) | (c == 30) | (c == 31);
     Clients {
@@ -75,6 +77,7 @@ fn clients(c: u8) -> Clients {
     }
 }
 
+// The same settings in every situation: those that the table's first text names.
 fn settings() -> Settings {
     Settings {
         addr: 0xABCD,
@@ -99,6 +102,7 @@ fn under_way(n: u8, c: u8) -> Under {
     Under::Register
 }
 
+// Buffer 0 where the state or the situation has a frame to send; in state 34 the transfer has it.
 fn tx_buf(n: u8, c: u8) -> Slot {
     let takes = (n == 33) | (n == 43);
     let natural = (33 <= n) & (n <= 44) & (c < AT_REST);
@@ -109,6 +113,7 @@ fn tx_buf(n: u8, c: u8) -> Slot {
     Slot::Empty
 }
 
+// Buffer 1 unless the situation is without it and the state does not take it; in 63 and 65 the transfer has it.
 fn rx_buf(n: u8, c: u8) -> Slot {
     let takes = takes_rx(n);
     let without = (c == 37) | (c == 38) | (AT_REST <= c);
@@ -138,6 +143,7 @@ fn buffers(n: u8, c: u8) -> Buffers {
     }
 }
 
+// The driver of state n in situation c.
 pub fn driver_in(n: u8, c: u8) -> Driver {
     let state = state_of(n);
     let set = flags(n, c);

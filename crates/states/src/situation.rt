@@ -9,6 +9,7 @@ use script::print::text;
 // Situations below this are conditions of a completion; those from COMBINED on name two things.
 pub const COMBINED: u8 = 30;
 
+// How many conditions of a completion there are: the situations below this.
 pub const CONDITIONS: u8 = 32;
 
 // A read of IRQ_STATUS that shows none of the interrupts that a step looks for.
@@ -20,8 +21,10 @@ pub const AT_REST: u8 = 42;
 // From here on a register transfer is under way again.
 pub const DURING: u8 = 49;
 
+// How many situations there are.
 pub const SITUATIONS: u8 = 53;
 
+// The bare name of a situation, without what it is a value of.
 fn name(out: &mut [u8], at: usize, c: u8) -> usize {
     nth(
         out,

@@ -24,6 +24,7 @@ fn rest(out: &mut [u8], line: usize, at: usize, n: u8, c: u8) -> usize {
     byte(out, b, b'\n')
 }
 
+// The line of state n in situation c: the state, the conditions with the same outcome, and the columns.
 fn line(out: &mut [u8], at: usize, n: u8, c: u8) -> usize {
     let a = state(out, at, number_of(driver_in(n, c)));
     let b = pad(out, at, a, 30);
@@ -31,6 +32,7 @@ fn line(out: &mut [u8], at: usize, n: u8, c: u8) -> usize {
     rest(out, at, d, n, c)
 }
 
+// That line, where no earlier condition has the same outcome.
 fn condition_line(out: &mut [u8], at: usize, n: u8, c: u8) -> usize {
     if is_first(n, c, false) {
         return line(out, at, n, c);
@@ -38,6 +40,7 @@ fn condition_line(out: &mut [u8], at: usize, n: u8, c: u8) -> usize {
     at
 }
 
+// The lines of a state's completions, for each condition.
 fn state_lines(out: &mut [u8], at: usize, n: u8) -> usize {
     let mut end = at;
     let mut c: u8 = 0;
@@ -48,6 +51,7 @@ fn state_lines(out: &mut [u8], at: usize, n: u8) -> usize {
     end
 }
 
+// The lines of the completions of all 69 states.
 fn completions(out: &mut [u8], at: usize) -> usize {
     let mut end = at;
     let mut n: u8 = 0;
@@ -58,6 +62,7 @@ fn completions(out: &mut [u8], at: usize) -> usize {
     end
 }
 
+// The line of what situation c does in most states, where it does something of its own there.
 fn general_line(out: &mut [u8], at: usize, c: u8) -> usize {
     if is_general(c) {
         let a = text(out, at, b"every other state");
@@ -68,6 +73,7 @@ fn general_line(out: &mut [u8], at: usize, c: u8) -> usize {
     at
 }
 
+// The line of state n in situation c, where it is an exception.
 fn exception_line(out: &mut [u8], at: usize, n: u8, c: u8) -> usize {
     if is_exception(n, c) {
         let a = state(out, at, number_of(driver_in(n, c)));
@@ -78,6 +84,7 @@ fn exception_line(out: &mut [u8], at: usize, n: u8, c: u8) -> usize {
     at
 }
 
+// The lines of all states that are exceptions to situation c.
 fn exceptions(out: &mut [u8], at: usize, c: u8) -> usize {
     let mut end = at;
     let mut n: u8 = 0;
@@ -88,6 +95,7 @@ fn exceptions(out: &mut [u8], at: usize, c: u8) -> usize {
     end
 }
 
+// The lines of interrupts, firings and calls.
 fn events(out: &mut [u8], at: usize) -> usize {
     let mut end = at;
     let mut c: u8 = NO_INTERRUPT;
@@ -99,6 +107,7 @@ fn events(out: &mut [u8], at: usize) -> usize {
     end
 }
 
+// The names of the columns.
 fn heading(out: &mut [u8], at: usize) -> usize {
     text(
         out,
@@ -108,6 +117,7 @@ fn heading(out: &mut [u8], at: usize) -> usize {
     )
 }
 
+// What is said above the completions: what the plain one is, and how a line differs from it.
 fn about_completions(out: &mut [u8], at: usize) -> usize {
     text(
         out,
@@ -119,6 +129,7 @@ fn about_completions(out: &mut [u8], at: usize) -> usize {
     )
 }
 
+// What is said above the interrupts and calls: how to read them, and what holds when they come.
 fn about_events(out: &mut [u8], at: usize) -> usize {
     text(
         out,
@@ -131,6 +142,7 @@ fn about_events(out: &mut [u8], at: usize) -> usize {
     )
 }
 
+// The whole table: completions, then interrupts, firings and calls, each part under its text and heading.
 pub fn table(out: &mut [u8]) -> usize {
     let a = about_completions(out, 0);
     let b = heading(out, a);

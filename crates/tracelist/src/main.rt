@@ -33,6 +33,7 @@ fn list_input(in_words: bool) {
     stream::list_all(in_words, &mut input, &mut block, &mut out);
 }
 
+// Says on standard error how the program is called.
 fn usage() {
     io::write_all(
         STDERR_FILENO,
@@ -40,6 +41,7 @@ fn usage() {
     );
 }
 
+// Lists standard input as the arguments ask, or says how the program is called.
 fn main() {
     match asked_for() {
         Asked::Numbers => list_input(false),

@@ -17,50 +17,20 @@ returns c =
 returns-2 : tie.Need-returns-2
 unfolding interruptState pick
 returns-2 c =
-    let at = c .before .before in
+    let at = c .before in
     let no-start = at .before .before in
-    rw (
-      rw (no-start .before .interrupt-included .ensures) at (no-start .if1 .left),
-      at .enum-told .given .1,
-      rw (c .before .interrupt-included2 .ensures) at (c .if2 .taken),
-    )
+    rw (c .state-if .ensures, rw (no-start .before .interrupt-included .ensures) at (no-start .if1 .left), at .enum-told .given .1)
 
 returns-3 : tie.Need-returns-3
 unfolding interruptState pick
 returns-3 c =
-    let at = c .before .before in
+    let at = c .before in
     let no-start = at .before .before in
-    rw (
-      rw (no-start .before .interrupt-included .ensures) at (no-start .if1 .left),
-      at .enum-told2 .given .1,
-      rw (c .before .interrupt-included3 .ensures) at (c .if3 .taken),
-    )
+    rw (c .state-if2 .ensures, rw (no-start .before .interrupt-included .ensures) at (no-start .if1 .left), at .enum-told2 .given .1)
 
 returns-4 : tie.Need-returns-4
 unfolding interruptState pick
 returns-4 c =
-    let at = c .before .before in
-    let no-start = at .before .before in
-    rw (
-      rw (no-start .before .interrupt-included .ensures) at (no-start .if1 .left),
-      at .enum-told .given .1,
-      rw (c .before .interrupt-included2 .ensures) at (c .if2 .left),
-    )
-
-returns-5 : tie.Need-returns-5
-unfolding interruptState pick
-returns-5 c =
-    let at = c .before .before in
-    let no-start = at .before .before in
-    rw (
-      rw (no-start .before .interrupt-included .ensures) at (no-start .if1 .left),
-      at .enum-told2 .given .1,
-      rw (c .before .interrupt-included3 .ensures) at (c .if3 .left),
-    )
-
-returns-6 : tie.Need-returns-6
-unfolding interruptState pick
-returns-6 c =
     let no-start = c .before in
     let s = no-start .before .before .args .state in
     let keys = rest (oneOf (27 ∷ 40 ∷ [])) in
@@ -78,10 +48,8 @@ interrupt-state-spec =
     returns
     (λ c. search needs)
     (λ c κs. search needs)
-    returns-2
     (λ c. search needs)
     (λ c κs. search needs)
+    returns-2
     returns-3
-    returns-4
-    returns-5
-    returns-6)
+    returns-4)

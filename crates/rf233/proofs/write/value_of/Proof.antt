@@ -1,6 +1,5 @@
 -- `value_of` meets its contract: each arm is told which value it has, and three do as `trx_cmd_number`, `power_to_setting` and `long_byte`
--- say. The wish goes to
--- `power_to_setting` as bits, which are read back as the wish, since it fits. Assumes nothing.
+-- say. The wish goes to `power_to_setting` as bits, which are read back as the wish, since it fits. Assumes nothing.
 use borrow.Author.Needs.{needs}
 use mathlib.Core.Path.{ap, _∙_}
 use mir.Syntax.{w8}
