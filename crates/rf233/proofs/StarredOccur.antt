@@ -86,7 +86,15 @@ occurs =
     record {
       sleeping = passes _ refl;
       sendable =
-          record { passes = passes _ refl; on = refl; held = refl; under-way = refl; not-transmitting = refl; clients = lit≤ tt; new = refl };
+          record {
+            passes = passes _ refl;
+            on = refl;
+            held = refl;
+            under-way = refl;
+            not-transmitting = refl;
+            clients = lit≤ tt;
+            new = refl;
+          };
       in-10 = registers 10 _ _ refl refl;
       in-11 = registers 11 _ _ refl refl;
       in-29 = registers 29 _ _ refl refl;

@@ -16,6 +16,26 @@ use Rattle.rf233.proofs.data.transmit.Statement.{statement}
 use Rattle.rf233.proofs.data.transmit.Tie as tie
 
 -- what is known once each refusal has been passed, in their order
+-- the way past a refusal, as what came before it
+abbrev past-12 : tie.Else2 → tie.Else1
+past-12 c = c .before .before
+
+abbrev past-7 : tie.Else3 → tie.Else2
+past-7 c = c .before .before .before
+
+abbrev past-1 : tie.Else4 → tie.Else3
+past-1 c = c .before .before
+
+abbrev past-2 : tie.Else5 → tie.Else4
+past-2 c = c .before .before
+
+abbrev past-3 : tie.Else6 → tie.Else5
+past-3 c = c .before
+
+abbrev past-4 : tie.Else7 → tie.Else6
+past-4 c = c .before .before
+
+-- what each refusal that was passed says
 not-12 : (c : tie.Else1) → let x = c .before .before .before .args in poolFault (x .d) (x .pool .now) ≡ false
 not-12 c = rw (c .before .pool-fault .ensures) at (c .if1 .left)
 
@@ -43,8 +63,7 @@ not-4 c =
     (c .if6 .left)
 
 not-8 : (c : tie.Else7)
-    → let x = c .before .before .before .before .before .before .before .before .before .before .before .before .before .before .before .args in
-    recordHas (x .d .buffers) (x .buffer) ≡ false
+    → let x = past-4 c .before .before .before .before .before .before .before .before .before .before .before .before .before .args in recordHas (x .d .buffers) (x .buffer) ≡ false
 not-8 c = rw (c .before .record-has .ensures) at (c .if7 .left)
 
 returns : tie.Need-returns
@@ -92,47 +111,44 @@ returns-5 c =
 returns-6 : tie.Need-returns-6
 unfolding transmitCall pick
 returns-6 c =
-    let start = c .before .before .before .before .before .before .before .before .before .before .before .before .before .before in
-    let pooled = not-12 (c .before .before .before .before .before .before .before .before .before .before .before) in
-    let named = not-7 (c .before .before .before .before .before .before .before .before .before) in
-    let on = not-1 (c .before .before .before .before .before .before) in
-    let free = not-2 (c .before .before .before .before) in
-    let sized = not-3 (c .before .before) in
-    let short = lt-ltb 125 (start .args .frame-len) (c .before .if6 .taken) in
-    (rw (pooled, named, on, free, sized, short, c .refuse6 .ensures), rw (pooled, named, on, free, sized, short))
+    let c5 = c .before .before in
+    let c4 = past-2 c5 in
+    let c3 = past-1 c4 in
+    let c2 = past-7 c3 in
+    let pooled = not-12 (past-12 c2) in
+    let long = lt-ltb 125 (c2 .before .before .before .before .before .args .frame-len) (c .before .if6 .taken) in (
+      rw (pooled, not-7 c2, not-1 c3, not-2 c4, not-3 c5, long, c .refuse6 .ensures),
+      rw (pooled, not-7 c2, not-1 c3, not-2 c4, not-3 c5, long),
+    )
 
 cast-place : tie.Need-cast-place
 cast-place c =
-    let start = c .before .before .before .before .before .before .before .before .before .before .before .before .before in
-    let x = start .args in
-    omega (
-      arith,
-      ltb-false 15 (x .buffer)
-          (none-left (ltb 15 (x .buffer)) (ltb 160 (x .length)) (not-7 (c .before .before .before .before .before .before .before .before))),
-    )
+    let c2 = c .before .before .before .before .before .before .before .before in
+    let x = c2 .before .before .before .before .before .args in
+    omega (arith, ltb-false 15 (x .buffer) (none-left (ltb 15 (x .buffer)) (ltb 160 (x .length)) (not-7 c2)))
 
 returns-7 : tie.Need-returns-7
 unfolding transmitCall pick
 returns-7 c =
     let at-record-has = c .before .before in
-    let pooled = not-12 (at-record-has .before .before .before .before .before .before .before .before .before .before .before) in
-    let named = not-7 (at-record-has .before .before .before .before .before .before .before .before .before) in
-    let on = not-1 (at-record-has .before .before .before .before .before .before) in
-    let free = not-2 (at-record-has .before .before .before .before) in
-    let sized = not-3 (at-record-has .before .before) in
-    let short = not-4 (at-record-has .before) in
-    let absent = rw (at-record-has .record-has .ensures) at (c .before .if7 .taken) in
-    (rw (pooled, named, on, free, sized, short, absent, c .refuse7 .ensures), rw (pooled, named, on, free, sized, short, absent))
+    let c6 = at-record-has .before in
+    let c5 = past-3 c6 in
+    let c4 = past-2 c5 in
+    let c3 = past-1 c4 in
+    let c2 = past-7 c3 in
+    let pooled = not-12 (past-12 c2) in
+    let held = rw (at-record-has .record-has .ensures) at (c .before .if7 .taken) in (
+      rw (pooled, not-7 c2, not-1 c3, not-2 c4, not-3 c5, not-4 c6, held, c .refuse7 .ensures),
+      rw (pooled, not-7 c2, not-1 c3, not-2 c4, not-3 c5, not-4 c6, held),
+    )
 
 cast-begin-transmit : tie.Need-cast-begin-transmit
 cast-begin-transmit c =
-    let start = c .before .before .before .before .before .before .before .before .before .before .before .before .before .before .before .before .before .before .before in
-    let x = start .args in
+    let c2 = c .before .before .before .before .before .before .before .before .before .before .before .before .before .before in
+    let x = c2 .before .before .before .before .before .args in
     omega (
       arith,
-      ltb-false 160 (x .length)
-          (none-right (ltb 15 (x .buffer)) (ltb 160 (x .length))
-          (not-7 (c .before .before .before .before .before .before .before .before .before .before .before .before .before .before))),
+      ltb-false 160 (x .length) (none-right (ltb 15 (x .buffer)) (ltb 160 (x .length)) (not-7 c2)),
     )
 
 returns-8 : tie.Need-returns-8
@@ -141,25 +157,17 @@ returns-8 c =
     let at-finish = c .before .before in
     let at-begin-transmit = at-finish .before .before in
     let at-put-length = at-begin-transmit .before .before .before in
-    let pooled = not-12 (at-put-length .before .before .before .before .before .before .before .before .before .before .before .before .before .before) in
-    let named = not-7 (at-put-length .before .before .before .before .before .before .before .before .before .before .before .before) in
-    let on = not-1 (at-put-length .before .before .before .before .before .before .before .before .before) in
-    let free = not-2 (at-put-length .before .before .before .before .before .before .before) in
-    let sized = not-3 (at-put-length .before .before .before .before .before) in
-    let short = not-4 (at-put-length .before .before .before .before) in
-    let absent = not-8 (at-put-length .before .before) in (
-      rw (
-        pooled,
-        named,
-        on,
-        free,
-        sized,
-        short,
-        absent,
-        at-finish .finish .ensures .0,
-        at-begin-transmit .begin-transmit .ensures,
-      ),
-      rw (pooled, named, on, free, sized, short, absent, at-finish .finish .ensures .1, at-begin-transmit .begin-transmit .ensures, at-put-length .put-length .ensures),
+    let c7 = at-put-length .before .before in
+    let c6 = past-4 c7 in
+    let c5 = past-3 c6 in
+    let c4 = past-2 c5 in
+    let c3 = past-1 c4 in
+    let c2 = past-7 c3 in
+    let pooled = not-12 (past-12 c2) in
+    let ends = at-finish .finish .ensures in
+    let begins = at-begin-transmit .begin-transmit .ensures in (
+      rw (pooled, not-7 c2, not-1 c3, not-2 c4, not-3 c5, not-4 c6, not-8 c7, ends .0, begins),
+      rw (pooled, not-7 c2, not-1 c3, not-2 c4, not-3 c5, not-4 c6, not-8 c7, ends .1, begins, at-put-length .put-length .ensures),
     )
 
 pub transmit-spec : {M : Type 1} → statement M
