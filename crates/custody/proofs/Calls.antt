@@ -8,7 +8,8 @@ use lib.Dec.{T, eqb, leb, ltb}
 use lib.IntN.{ℤ}
 use borrow.Author.Tests.{le-leb, leb-true, lt-leb, ltb-false, leb-false, not-true}
 use Rattle.rf233.specs.Action.{actions}
-use Rattle.rf233.specs.Answer.{answerNo, answerOf, stepOf, quiet, refused}
+use Rattle.rf233.specs.Answer.{answerNo, answerOf, refused}
+use Rattle.rf233.specs.Step.{stepOf, quiet}
 use Rattle.custody.specs.Book.{Page, Fed, called, entered, ended, begun, notedAll, turnedDown}
 use Rattle.custody.specs.Book.Fed.{completes, other, lendsTransmit, lendsReceive}
 use Rattle.rf233.specs.Guard.{Called}
@@ -51,7 +52,8 @@ use Rattle.rf233.specs.Driver.Flag.{
 use Rattle.rf233.specs.Record as rec
 use Rattle.rf233.specs.Described.{txLengthBad, rxLengthBad, lengthBad, heldBesides, described, frameNo, frameUnfit, bufferMissing}
 use Rattle.rf233.specs.State.{stateNo, stateFrame}
-use Rattle.rf233.specs.Transfer.{isIdle, refrains, registerTransfer}
+use Rattle.rf233.specs.Transfer.{isIdle}
+use Rattle.rf233.specs.Starter.{refrains, registerTransfer}
 use Rattle.rf233.specs.declared.answer.Answer.{Answer}
 use Rattle.rf233.specs.declared.answer.Answer.the-variants.{Done}
 use Rattle.rf233.specs.declared.answer.Outcome.{Outcome}

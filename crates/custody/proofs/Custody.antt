@@ -17,7 +17,7 @@ use Rattle.custody.specs.Book.{Page, begun, taken, noted, notedAll, give
 use Rattle.rf233.specs.Choice.{pick, oneOf, within}
 use Rattle.custody.specs.Claim.{kindOf, underKind}
 use Rattle.rf233.specs.Record.{isHeld, bufferIn}
-use Rattle.rf233.specs.Driver.{Flag, Assignment, flag, setFlag, assignAll, flagNo, assigning, withState, withBuffers}
+use Rattle.rf233.specs.Driver.{Flag, Assignment, flag, setFlag, assignAll, flagNo, assigning, withState, withBuffers, recordWith}
 use Rattle.rf233.specs.Driver.Flag.{transmitting, interruptHandling, crcValid}
 use Rattle.rf233.specs.Driver.Assignment.{put, putCrc}
 use Rattle.rf233.specs.Case.{perform, accessed, shown, handed, entering, withoutTx, withoutRx, ownCase, caseOf, treeAt}
@@ -29,18 +29,8 @@ use Rattle.rf233.specs.Rows.Access.{none, reads, writes, readsLength, readsFram
 use Rattle.rf233.specs.Rows.Shown.{plain, powerChanged, configDone, sentBack, droppedBack, receivedBack}
 use Rattle.rf233.specs.Rows.Row.{does}
 use Rattle.rf233.specs.State.{stateNo}
-use Rattle.rf233.specs.Transfer.{
-  isIdle,
-  recordWith,
-  transferOf,
-  begins,
-  refrains,
-  registerTransfer,
-  frameRead,
-  frameReadInto,
-  frameWrite,
-  frameWriteFrom,
-}
+use Rattle.rf233.specs.Transfer.{isIdle, transferOf}
+use Rattle.rf233.specs.Starter.{begins, refrains, registerTransfer, frameRead, frameReadInto, frameWrite, frameWriteFrom}
 use Rattle.rf233.specs.declared.action.Action.{Action}
 use Rattle.rf233.specs.declared.action.Action.the-variants as action
 use Rattle.rf233.specs.declared.answer.Outcome.{Outcome}
@@ -49,7 +39,7 @@ use Rattle.rf233.specs.declared.arrived.Arrived.{Arrived}
 use Rattle.rf233.specs.declared.driver.Buffers.{Buffers}
 use Rattle.rf233.specs.declared.driver.Driver.{Driver}
 use Rattle.rf233.specs.declared.driver.Flags.{Flags}
-use Rattle.rf233.specs.declared.transfer.Started.{Started}
+use Rattle.rf233.specs.declared.starter.Started.{Started}
 use Rattle.rf233.specs.declared.driver.Under.{Under}
 use Rattle.rf233.specs.declared.driver.Under.the-variants.{Idle, Register, FrameRead, FrameWrite}
 use Rattle.rf233.specs.declared.driver.Slot.{Slot}

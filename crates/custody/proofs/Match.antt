@@ -48,7 +48,8 @@ use Rattle.rf233.specs.Completion.{buffersBack}
 use Rattle.rf233.specs.Case.{withoutTx, withoutRx}
 use Rattle.rf233.specs.Create.{newDriver}
 use Rattle.rf233.specs.Described.{slotAbove, underSlot, twiceBelow, recordedTwice, ownNowhere, clientAbove, heldBesides}
-use Rattle.rf233.specs.Transfer.{isIdle, recordWith}
+use Rattle.rf233.specs.Transfer.{isIdle}
+use Rattle.rf233.specs.Driver.{recordWith}
 use Rattle.rf233.specs.declared.answer.Reply.{Reply}
 use Rattle.rf233.specs.declared.driver.Buffers.{Buffers}
 use Rattle.rf233.specs.declared.driver.Slot.{Slot}

@@ -8,7 +8,7 @@ use native.Mathlib.Nat.{le-trans}
 use lib.Dec.{T, eqb, leb, leb→le}
 use lib.ListN.{length}
 use Rattle.rf233.specs.Action.{actions}
-use Rattle.rf233.specs.Answer.{stepOf, quiet}
+use Rattle.rf233.specs.Step.{stepOf, quiet, transitionRead, transitionWrite}
 use Rattle.custody.specs.Book.{Page, begun, notedAll}
 use Rattle.rf233.specs.Choice.{pick, oneOf}
 use Rattle.custody.specs.Claim.{kindOf}
@@ -18,13 +18,13 @@ use Rattle.rf233.specs.Completion.{fallsOn, waitingCommit, pendingInterrupt, re
 use Rattle.rf233.specs.Interrupt.{handleInterrupt, interruptState, rxStart, trxEnd, pllLock}
 use Rattle.rf233.specs.Driver.Flag.{transmitting, interruptHandling, receiving, interruptPending, configPending}
 use Rattle.rf233.specs.Case.{perform, accessed, caseOf, ownCase, shown, handed, entering, trees, treeAt}
-use Rattle.rf233.specs.Step.{transitionRead, transitionWrite}
 use Rattle.rf233.specs.Rows.{Access, Shown, Next, Row, holds, eval}
 use Rattle.rf233.specs.Rows.Test.{lengthFits}
 use Rattle.rf233.specs.Rows.Next.{same, to}
 use Rattle.rf233.specs.Rows.Row.{does}
 use Rattle.rf233.specs.State.{stateNo}
-use Rattle.rf233.specs.Transfer.{isIdle, registerTransfer}
+use Rattle.rf233.specs.Transfer.{isIdle}
+use Rattle.rf233.specs.Starter.{registerTransfer}
 use Rattle.rf233.specs.declared.answer.Outcome.{Outcome}
 use Rattle.rf233.specs.declared.arrived.Arrived.{Arrived}
 use Rattle.rf233.specs.declared.driver.Buffers.{Buffers}

@@ -8,7 +8,7 @@ use lib.Dec.{eqb}
 use lib.IntN.{ℤ}
 use lib.ListN.{getD}
 use Rattle.rf233.specs.Action.{actions}
-use Rattle.rf233.specs.Answer.{quiet}
+use Rattle.rf233.specs.Step.{quiet}
 use Rattle.custody.specs.Book.{Page, Fed, newPage, entered}
 use Rattle.custody.specs.Book.Fed.{lendsTransmit, lendsReceive, completes, other}
 use Rattle.rf233.specs.Config.{startCall, stopCall, commitCall, resetCall, setAddress, setAddressLong, setPan, setPower, setChannel}

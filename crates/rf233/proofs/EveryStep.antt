@@ -21,7 +21,7 @@ use Rattle.rf233.specs.Driver.{withFlags, withState}
 use Rattle.rf233.specs.Interrupt.{handleInterrupt, interruptState}
 use Rattle.rf233.specs.Record.{isHeld}
 use Rattle.rf233.specs.Step.{transitionWrite}
-use Rattle.rf233.specs.Transfer.{registerTransfer}
+use Rattle.rf233.specs.Starter.{registerTransfer}
 use Rattle.rf233.specs.Write.{valueOf}
 use Rattle.rf233.specs.declared.action.Actions.{Actions}
 use Rattle.rf233.specs.declared.answer.Answer.the-variants.{Done}
@@ -30,7 +30,7 @@ use Rattle.rf233.specs.declared.arrived.Arrived.{Arrived}
 use Rattle.rf233.specs.declared.driver.Driver.{Driver}
 use Rattle.rf233.specs.declared.driver.Flags.{Flags}
 use Rattle.rf233.specs.declared.state.InternalState.the-variants.{«CONFIG_SHORT0_SET», «RX_START_READING»}
-use Rattle.rf233.specs.declared.transfer.Started.{Started}
+use Rattle.rf233.specs.declared.starter.Started.{Started}
 use Rattle.rf233.specs.declared.transfer.Transfer.{Transfer}
 use Rattle.rf233.specs.declared.write.Value.the-variants.{AddrLow}
 use Rattle.rf233.proofs.ChoiceLaws.{branch, either}

@@ -12,7 +12,7 @@ use Rattle.rf233.specs.Create.{newDriver}
 use Rattle.rf233.specs.Described.{described, slotAbove, clientAbove, recordedTwice, ownNowhere, twiceBelow}
 use Rattle.rf233.specs.Record.{countOf, slotHas, underHas, ownHas, one, recordHas}
 use Rattle.rf233.specs.State.{stateNo, stateFrame}
-use Rattle.rf233.specs.Transfer.{recordWith}
+use Rattle.rf233.specs.Driver.{recordWith}
 use Rattle.rf233.specs.declared.driver.Buffers.{Buffers}
 use Rattle.rf233.specs.declared.driver.Driver.{Driver}
 use Rattle.rf233.specs.declared.driver.Slot.{Slot}

@@ -10,7 +10,8 @@ use lib.ListN.{length, getD}
 use Rattle.rf233_const.specs.Bits.{bitSet}
 use Rattle.rf233_const.specs.Status.{chipStatus}
 use Rattle.rf233.specs.Action.{actions}
-use Rattle.rf233.specs.Answer.{quiet, refused}
+use Rattle.rf233.specs.Step.{quiet}
+use Rattle.rf233.specs.Answer.{refused}
 use Rattle.rf233.specs.Guard.{Called, refusing}
 use Rattle.rf233.specs.Config.{startCall, commitCall, setPower, settingsOf, withSettings}
 use Rattle.rf233.specs.Kernel.{completionCall, arrivedBad}

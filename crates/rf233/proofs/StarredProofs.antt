@@ -12,7 +12,7 @@ use Rattle.rf233_const.specs.Command as command
 use Rattle.rf233_const.specs.Register.{registerAddress}
 use Rattle.rf233_const.specs.declared.register.RF233Register.{RF233Register}
 use Rattle.rf233.specs.Action.{actions}
-use Rattle.rf233.specs.Answer.{quiet}
+use Rattle.rf233.specs.Step.{quiet}
 use Rattle.rf233.specs.Choice.{pick, within}
 use Rattle.rf233.specs.Guard.{Called, stepping, refusing}
 use Rattle.rf233.specs.Config.{channelFits, beginStart, startCall, beginCommit, commitCall, setPower}
@@ -42,7 +42,8 @@ use Rattle.rf233.specs.Rows.Next.{to}
 use Rattle.rf233.specs.Rows.Row.{does}
 use Rattle.rf233.specs.Rows.Tree.{leaf}
 use Rattle.rf233.specs.State.{stateNo}
-use Rattle.rf233.specs.Transfer.{transferOf, registerTransfer, frameReadInto, isIdle}
+use Rattle.rf233.specs.Transfer.{transferOf, isIdle}
+use Rattle.rf233.specs.Starter.{registerTransfer, frameReadInto}
 use Rattle.rf233.specs.Write.{valueOf}
 use Rattle.rf233.specs.declared.answer.Outcome.{Outcome}
 use Rattle.rf233.specs.declared.arrived.Arrived.{Arrived}
@@ -53,7 +54,7 @@ use Rattle.rf233.specs.declared.write.Value.{Value}
 use Rattle.rf233.specs.declared.write.Value.the-variants.{AddrLow, AddrHigh}
 use Rattle.rf233.specs.declared.state.InternalState.{InternalState}
 use Rattle.rf233.specs.declared.state.InternalState.the-variants.{«CONFIG_SHORT0_SET»}
-use Rattle.rf233.specs.declared.transfer.Started.{Started}
+use Rattle.rf233.specs.declared.starter.Started.{Started}
 use Rattle.rf233.specs.declared.transfer.Transfer.{Transfer}
 use Rattle.laws.proofs.Logic.{both-left}
 use Rattle.rf233.proofs.ChoiceLaws.{either}

@@ -24,7 +24,8 @@ use Rattle.rf233.specs.Rows.Next.{to}
 use Rattle.rf233.specs.Rows.Row.{does}
 use Rattle.rf233.specs.Rows.Tree.{leaf}
 use Rattle.rf233.specs.State.{stateNo}
-use Rattle.rf233.specs.Transfer.{transferOf, registerTransfer, isIdle}
+use Rattle.rf233.specs.Transfer.{transferOf, isIdle}
+use Rattle.rf233.specs.Starter.{registerTransfer}
 use Rattle.rf233.specs.Write.{valueOf}
 use Rattle.rf233.specs.declared.answer.Outcome.{Outcome}
 use Rattle.rf233.specs.declared.driver.Buffers.{Buffers}

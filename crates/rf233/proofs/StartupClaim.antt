@@ -12,7 +12,7 @@ use borrow.Author.Tests.{eqb-true, eqb-false, le-leb, not-true, not-false}
 use lib.ListN.{getD}
 use Rattle.rf233_const.specs.Bits.{bitSet}
 use Rattle.rf233.specs.Choice.{pick, oneOf}
-use Rattle.rf233.specs.Driver.{inNo, driverOf, flagsOf}
+use Rattle.rf233.specs.Driver.{inNo, driverOf, flagsOf, recordWith}
 use Rattle.rf233.specs.Completion.{completed, interruptResult, frameEnd, readyBookkeeping, pendingInterrupt, waitingCommit, frameDone}
 use Rattle.rf233.specs.Interrupt.{handleInterrupt, interruptState, pllLock, rxStart, trxEnd}
 use Rattle.rf233.specs.Config.{startCall, beginStart}
@@ -24,7 +24,8 @@ use Rattle.rf233.specs.Rows.{eval, holds}
 use Rattle.rf233.specs.StartupClaim.{after, accepted, showsLock, Starting, StartsWithin30, StartupClaim}
 use Rattle.rf233.specs.StartupClaim.Starting.{begins, completes, fires, completionRefused, firingRefused}
 use Rattle.rf233.specs.State.{stateNo}
-use Rattle.rf233.specs.Transfer.{isIdle, recordWith, registerTransfer}
+use Rattle.rf233.specs.Transfer.{isIdle}
+use Rattle.rf233.specs.Starter.{registerTransfer}
 use Rattle.rf233.specs.declared.arrived.Arrived.{Arrived}
 use Rattle.rf233.specs.declared.driver.Driver.{Driver}
 use Rattle.rf233.specs.declared.driver.Slot.the-variants.{Empty}

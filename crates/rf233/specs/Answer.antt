@@ -1,10 +1,9 @@
--- Document 01's refusals by number ("Who can cause which refusal"), and what a call yields: a step that was taken, or a refusal.
+-- Document 01's refusals by number ("Who can cause which refusal"), and what a refusal yields.
 use Prim.Native.Nat.{ℕ}
 use mathlib.Core.List.{List, [], _∷_}
 use lib.ListN.{getD}
 use Rattle.rf233.specs.Action.{actions}
-use Rattle.rf233.specs.Transfer.{noTransfer, refrains}
-use Rattle.rf233.specs.declared.action.Actions.{Actions}
+use Rattle.rf233.specs.Transfer.{noTransfer}
 use Rattle.rf233.specs.declared.answer.Answer.{Answer}
 use Rattle.rf233.specs.declared.answer.Answer.the-variants.{
   Done,
@@ -26,7 +25,6 @@ use Rattle.rf233.specs.declared.answer.Answer.the-variants.{
 }
 use Rattle.rf233.specs.declared.answer.Outcome.{Outcome}
 use Rattle.rf233.specs.declared.driver.Driver.{Driver}
-use Rattle.rf233.specs.declared.transfer.Started.{Started}
 
 -- the number of an answer: 0, or the refusal's
 abbrev pub answerNo : Answer → ℕ
@@ -55,14 +53,6 @@ answers =
 -- the answer of a number; `answerNo` gives it back (`answer-of-number` and `number-of-answer` in proofs/Answers.antt)
 abbrev pub answerOf : ℕ → Answer
 answerOf n = getD answers n Done
-
--- a step that is done: what a starter left, and these actions
-abbrev pub stepOf : Started → Actions → Outcome
-stepOf s l = record { driver = s .driver; reply = record { answer = Done; transfer = s .transfer; actions = l } }
-
--- a step that starts nothing
-abbrev pub quiet : Driver → Actions → Outcome
-quiet d l = stepOf (refrains d) l
 
 -- the refusal of this number: no transfer, no actions
 abbrev pub refused : ℕ → Driver → Outcome

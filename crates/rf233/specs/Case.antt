@@ -3,10 +3,10 @@ use Prim.Native.Nat.{ℕ}
 use mathlib.Core.List.{List, [], _∷_, _++_}
 use lib.ListN.{getD}
 use Rattle.rf233.specs.Action.{actions}
-use Rattle.rf233.specs.Answer.{stepOf}
+use Rattle.rf233.specs.Step.{stepOf}
 use Rattle.rf233.specs.Choice.{pick}
 use Rattle.rf233.specs.Commit.{commitTrees}
-use Rattle.rf233.specs.Driver.{client, assigning, withState, withBuffers}
+use Rattle.rf233.specs.Driver.{client, assigning, withState, withBuffers, withTx, withRx}
 use Rattle.rf233.specs.Driver.Client.{cfgClient, powerClient}
 use Rattle.rf233.specs.Ready.{readyTrees}
 use Rattle.rf233.specs.Receive.{received, receiveTrees}
@@ -19,7 +19,7 @@ use Rattle.rf233.specs.Rows.Shown.{plain, powerChanged, configDone, sent
 use Rattle.rf233.specs.Sleep.{sleepTrees}
 use Rattle.rf233.specs.Startup.{startupTrees}
 use Rattle.rf233.specs.State.{stateNo}
-use Rattle.rf233.specs.Transfer.{withTx, withRx, refrains, registerRead, registerWrite, frameRead, frameWrite}
+use Rattle.rf233.specs.Starter.{refrains, registerRead, registerWrite, frameRead, frameWrite}
 use Rattle.rf233.specs.Transmit.{sendDone, transmitTrees}
 use Rattle.rf233.specs.Write.{valueOf}
 use Rattle.rf233.specs.declared.action.Action.{Action}
@@ -29,7 +29,7 @@ use Rattle.rf233.specs.declared.arrived.Arrived.{Arrived}
 use Rattle.rf233.specs.declared.driver.Buffers.{Buffers}
 use Rattle.rf233.specs.declared.driver.Driver.{Driver}
 use Rattle.rf233.specs.declared.driver.Slot.the-variants.{Empty}
-use Rattle.rf233.specs.declared.transfer.Started.{Started}
+use Rattle.rf233.specs.declared.starter.Started.{Started}
 
 -- the case of each state, in the order of document 01's numbers
 unfoldable pub trees : List Tree

@@ -7,7 +7,7 @@ use lib.Dec.{eqb}
 use Rattle.rf233_const.specs.declared.register.RF233Register.the-variants.{MIN, «TRX_STATUS», «SHORT_ADDR_0»}
 use Rattle.rf233.specs.Case.{ownCase}
 use Rattle.rf233.specs.Choice.{pick, oneOf}
-use Rattle.rf233.specs.Driver.{flag, flagged, assigning, withState, withBuffers, inNo}
+use Rattle.rf233.specs.Driver.{flag, flagged, assigning, withState, withBuffers, inNo, recordWith}
 use Rattle.rf233.specs.Driver.Assignment.{put}
 use Rattle.rf233.specs.Driver.Flag.{
   radioOn,
@@ -23,7 +23,6 @@ use Rattle.rf233.specs.Interrupt.{handleInterrupt, rxStart, trxEnd, inte
 use Rattle.rf233.specs.Record.{isHeld}
 use Rattle.rf233.specs.State.{stateNo}
 use Rattle.rf233.specs.Step.{transitionRead, transitionWrite}
-use Rattle.rf233.specs.Transfer.{recordWith}
 use Rattle.rf233.specs.Write.{valueOf}
 use Rattle.rf233.specs.declared.answer.Answer.the-variants.{Done}
 use Rattle.rf233.specs.declared.answer.Outcome.{Outcome}

@@ -8,15 +8,15 @@ use Rattle.rf233_const.specs.TrxState.{commandValue}
 use Rattle.rf233_const.specs.declared.register.RF233Register.the-variants.{«PART_NUM», «TRX_STATUS», «TRX_STATE», «SHORT_ADDR_0»}
 use Rattle.rf233_const.specs.declared.trx_state.RF233TrxCmd.the-variants as cmd
 use Rattle.rf233.specs.Action.{actions}
-use Rattle.rf233.specs.Answer.{stepOf, quiet, refused}
+use Rattle.rf233.specs.Step.{stepOf, quiet, transitionRead, transitionWrite}
+use Rattle.rf233.specs.Answer.{refused}
 use Rattle.rf233.specs.Choice.{pick, oneOf, within}
 use Rattle.rf233.specs.Driver.{flag, flagged, driverOf, inNo}
 use Rattle.rf233.specs.Driver.Flag.{radioOn, transmitting, configPending, sleepPending, wakePending}
 use Rattle.rf233.specs.Guard.{Called, refusing, stepping, guarded}
 use Rattle.rf233.specs.Power.{powerFits}
 use Rattle.rf233.specs.State.{stateNo}
-use Rattle.rf233.specs.Step.{transitionRead, transitionWrite}
-use Rattle.rf233.specs.Transfer.{registerRead}
+use Rattle.rf233.specs.Starter.{registerRead}
 use Rattle.rf233.specs.Write.{valueOf}
 use Rattle.rf233.specs.declared.action.Action.the-variants.{ResetMakeOutput, SleepMakeOutput, ResetClear, ResetSet, SleepClear}
 use Rattle.rf233.specs.declared.answer.Outcome.{Outcome}

@@ -4,7 +4,8 @@ use mathlib.Core.Bool.{Bool, true, false, _&&_}
 use mathlib.Core.List.{[], _∷_}
 use lib.ListN.{replicate}
 use Rattle.rf233.specs.Action.{actions}
-use Rattle.rf233.specs.Answer.{quiet, refused}
+use Rattle.rf233.specs.Step.{quiet}
+use Rattle.rf233.specs.Answer.{refused}
 use Rattle.rf233.specs.Config.{settingsOf, channelFits}
 use Rattle.rf233.specs.Choice.{pick, within}
 use Rattle.rf233.specs.Driver.{driverOf, flagsOf}

@@ -6,14 +6,14 @@ use lib.Dec.{leb, ltb}
 use lib.ListN.{set}
 use Rattle.rf233_const.specs.declared.register.RF233Register.the-variants.{«TRX_STATUS»}
 use Rattle.rf233.specs.Action.{actions}
-use Rattle.rf233.specs.Answer.{quiet, refused}
+use Rattle.rf233.specs.Step.{quiet, transitionRead}
+use Rattle.rf233.specs.Answer.{refused}
 use Rattle.rf233.specs.Choice.{pick}
 use Rattle.rf233.specs.Driver.{flag, flagged, withBuffers, inNo}
 use Rattle.rf233.specs.Driver.Flag.{radioOn, transmitting, receiving}
 use Rattle.rf233.specs.Guard.{Called, refusing, stepping, guarded}
 use Rattle.rf233.specs.Pool.{startOf}
 use Rattle.rf233.specs.Record.{isHeld, recordHas, txUnderWay, rxUnderWay}
-use Rattle.rf233.specs.Step.{transitionRead}
 use Rattle.rf233.specs.declared.answer.Outcome.{Outcome}
 use Rattle.rf233.specs.declared.driver.Buffers.{Buffers}
 use Rattle.rf233.specs.declared.driver.Driver.{Driver}

@@ -12,6 +12,8 @@ use Rattle.rf233.specs.declared.driver.Clients.{Clients}
 use Rattle.rf233.specs.declared.driver.Settings.{Settings}
 use Rattle.rf233.specs.declared.driver.Buffers.{Buffers}
 use Rattle.rf233.specs.declared.driver.Driver.{Driver}
+use Rattle.rf233.specs.declared.driver.Slot.{Slot}
+use Rattle.rf233.specs.declared.driver.Under.{Under}
 
 -- the Rust's cells of a bool, in the order of `Flags`
 pub data Flag : Type 0 where
@@ -116,6 +118,33 @@ flagged x v d = withFlags (setFlag x v (d .flags)) d
 -- the driver with this record of its buffers
 abbrev pub withBuffers : Buffers → Driver → Driver
 withBuffers b d = driverOf (d .state) (d .flags) (d .clients) (d .settings) b
+
+-- the record with these own buffers in their places, this present length of spi_buf, these client's places and this transfer
+abbrev pub recordWith : Bool → Bool → Bool → ℕ → Slot → Slot → Under → Buffers → Buffers
+recordWith t r s l x y u b =
+    record {
+      «spi_tx» = t;
+      «spi_rx» = r;
+      «spi_buf» = s;
+      «spi_buf_whole» = b .«spi_buf_whole»;
+      «spi_buf_len» = l;
+      «tx_buf» = x;
+      «rx_buf» = y;
+      «tx_len» = b .«tx_len»;
+      under = u;
+    }
+
+-- the record with another transfer under way
+abbrev pub withUnder : Under → Buffers → Buffers
+withUnder u b = recordWith (b .«spi_tx») (b .«spi_rx») (b .«spi_buf») (b .«spi_buf_len») (b .«tx_buf») (b .«rx_buf») u b
+
+-- the record with another transmit place
+abbrev pub withTx : Slot → Buffers → Buffers
+withTx x b = recordWith (b .«spi_tx») (b .«spi_rx») (b .«spi_buf») (b .«spi_buf_len») x (b .«rx_buf») (b .under) b
+
+-- the record with another receive place
+abbrev pub withRx : Slot → Buffers → Buffers
+withRx x b = recordWith (b .«spi_tx») (b .«spi_rx») (b .«spi_buf») (b .«spi_buf_len») (b .«tx_buf») x (b .under) b
 
 -- the driver is in the state of this number
 abbrev pub inNo : ℕ → Driver → Bool

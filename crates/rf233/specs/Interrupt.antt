@@ -9,13 +9,13 @@ use Rattle.rf233_const.specs.declared.interrupt.InteruptFlags.the-variants.{«I
 use Rattle.rf233_const.specs.declared.register.RF233Register.the-variants.{«IRQ_STATUS», «TRX_STATE»}
 use Rattle.rf233_const.specs.declared.trx_state.RF233TrxCmd.the-variants as cmd
 use Rattle.rf233.specs.Action.{actions}
-use Rattle.rf233.specs.Answer.{stepOf, quiet}
+use Rattle.rf233.specs.Step.{stepOf, quiet, transitionWrite}
 use Rattle.rf233.specs.Choice.{pick}
 use Rattle.rf233.specs.Driver.{flagged, inNo}
 use Rattle.rf233.specs.Driver.Flag.{interruptHandling, interruptPending}
 use Rattle.rf233.specs.State.{stateNo}
-use Rattle.rf233.specs.Step.{transitionWrite}
-use Rattle.rf233.specs.Transfer.{isIdle, registerRead}
+use Rattle.rf233.specs.Transfer.{isIdle}
+use Rattle.rf233.specs.Starter.{registerRead}
 use Rattle.rf233.specs.declared.answer.Outcome.{Outcome}
 use Rattle.rf233.specs.declared.arrived.Arrived.{Arrived}
 use Rattle.rf233.specs.declared.driver.Driver.{Driver}

@@ -3,6 +3,7 @@ pub mod State
 pub mod Driver
 pub mod Action
 pub mod Transfer
+pub mod Starter
 pub mod Answer
 pub mod Power
 pub mod Step

@@ -1,15 +1,25 @@
--- The steps of a register transfer, and a step with its actions (the Rust's `state_transition_read`, `state_transition_write`).
+-- A step that is done, one that starts nothing, the steps of a register transfer (the Rust's `state_transition_read`,
+-- `state_transition_write`), and a step with its actions.
 use Prim.Native.Nat.{ℕ}
 use mathlib.Core.List.{[]}
 use Rattle.rf233_const.specs.declared.register.RF233Register.{RF233Register}
 use Rattle.rf233.specs.Action.{actions}
-use Rattle.rf233.specs.Answer.{stepOf}
 use Rattle.rf233.specs.Driver.{withState}
-use Rattle.rf233.specs.Transfer.{registerRead, registerWrite}
+use Rattle.rf233.specs.Starter.{refrains, registerRead, registerWrite}
 use Rattle.rf233.specs.declared.action.Actions.{Actions}
+use Rattle.rf233.specs.declared.answer.Answer.the-variants.{Done}
 use Rattle.rf233.specs.declared.answer.Outcome.{Outcome}
 use Rattle.rf233.specs.declared.driver.Driver.{Driver}
+use Rattle.rf233.specs.declared.starter.Started.{Started}
 use Rattle.rf233.specs.declared.state.InternalState.{InternalState}
+
+-- a step that is done: what a starter left, and these actions
+abbrev pub stepOf : Started → Actions → Outcome
+stepOf s l = record { driver = s .driver; reply = record { answer = Done; transfer = s .transfer; actions = l } }
+
+-- a step that starts nothing
+abbrev pub quiet : Driver → Actions → Outcome
+quiet d l = stepOf (refrains d) l
 
 -- a register read, and the next state
 abbrev pub transitionRead : RF233Register → InternalState → Driver → Outcome

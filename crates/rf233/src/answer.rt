@@ -3,11 +3,10 @@ use crate::action::Actions;
 use crate::action::no_actions;
 use crate::arrived::Arrived;
 use crate::driver::Driver;
-use crate::transfer::Started;
 use crate::transfer::Transfer;
 use crate::transfer::no_transfer;
 ghost use mathlib.Core.Path.{_≡_};
-ghost use Rattle.rf233.specs.Answer.{answerNo, refused, stepOf};
+ghost use Rattle.rf233.specs.Answer.{answerNo, refused};
 
 // Document 01's answers, in the order of their numbers.
 pub enum Answer {
@@ -63,22 +62,6 @@ pub fn answer_number(answer: Answer) -> u8
         Answer::Arrived => 13,
         Answer::Configure => 14,
         Answer::New => 15,
-    }
-}
-
-// A step that is done: what a starter left, and these actions.
-pub(crate) fn step_of(started: Started, actions: Actions) -> Outcome
-    ensures { λ r. ⌜ r ≡ stepOf started actions ⌝ }
-{
-    let driver = started.driver;
-    let transfer = started.transfer;
-    Outcome {
-        driver: driver,
-        reply: Reply {
-            answer: Answer::Done,
-            transfer: transfer,
-            actions: actions,
-        },
     }
 }
 

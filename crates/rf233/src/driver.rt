@@ -1,8 +1,7 @@
 // The driver as a value: what the Rust keeps in cells, and where each buffer is.
 use crate::state::InternalState;
 ghost use mathlib.Core.Path.{_≡_};
-ghost use Rattle.rf233.specs.Driver.{withBuffers, withFlags, withState};
-ghost use Rattle.rf233.specs.Transfer.{withRx, withTx, withUnder};
+ghost use Rattle.rf233.specs.Driver.{withBuffers, withFlags, withRx, withState, withTx, withUnder};
 
 // The Rust's cells of a bool, under its names. Its `spi_busy` is here the record of the transfer under way.
 pub struct Flags {

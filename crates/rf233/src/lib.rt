@@ -22,6 +22,7 @@ mod ready;
 mod receive;
 mod record;
 mod sleep;
+mod starter;
 mod startup;
 pub mod state;
 mod step;

@@ -15,10 +15,10 @@ use rf233_const::trx_state::RF233TrxCmd;
 use rf233_const::trx_state::trx_cmd_number;
 ghost use mathlib.Core.Path.{_≡_};
 ghost use Rattle.rf233.specs.Action.{actions};
-ghost use Rattle.rf233.specs.Answer.{quiet};
 ghost use Rattle.rf233.specs.Case.{ownCase};
 ghost use Rattle.rf233.specs.Ready.{powerTold};
 ghost use Rattle.rf233.specs.State.{stateNo};
+ghost use Rattle.rf233.specs.Step.{quiet};
 
 // The case of READY.
 pub fn ready_case(d: Driver, a: Arrived) -> Outcome

@@ -1,17 +1,18 @@
 // The steps of a register transfer, the Rust's two state transitions among them, and a step that starts nothing.
 use crate::action::Actions;
 use crate::action::no_actions;
+use crate::answer::Answer;
 use crate::answer::Outcome;
 use crate::answer::Reply;
-use crate::answer::step_of;
 use crate::driver::Driver;
 use crate::driver::Under;
 use crate::driver::with_state;
 use crate::driver::with_under;
+use crate::starter::Started;
+use crate::starter::begin;
+use crate::starter::refrain;
 use crate::state::InternalState;
-use crate::transfer::begin;
 use crate::transfer::is_idle;
-use crate::transfer::refrain;
 use crate::transfer::transfer_of;
 use rf233_const::command::register_read_command;
 use rf233_const::command::register_write_command;
@@ -22,10 +23,25 @@ ghost use mathlib.Core.Path.{_≡_};
 ghost use mathlib.Core.List.{[]};
 ghost use Rattle.rf233_const.specs.TrxState.{commandValue};
 ghost use Rattle.rf233.specs.Action.{actions};
-ghost use Rattle.rf233.specs.Answer.{quiet, stepOf};
 ghost use Rattle.rf233.specs.Driver.{withState};
-ghost use Rattle.rf233.specs.Step.{transitionRead, transitionWrite, withActions};
-ghost use Rattle.rf233.specs.Transfer.{registerTransfer};
+ghost use Rattle.rf233.specs.Starter.{registerTransfer};
+ghost use Rattle.rf233.specs.Step.{quiet, stepOf, transitionRead, transitionWrite, withActions};
+
+// A step that is done: what a starter left, and these actions.
+pub fn step_of(started: Started, actions: Actions) -> Outcome
+    ensures { λ r. ⌜ r ≡ stepOf started actions ⌝ }
+{
+    let driver = started.driver;
+    let transfer = started.transfer;
+    Outcome {
+        driver: driver,
+        reply: Reply {
+            answer: Answer::Done,
+            transfer: transfer,
+            actions: actions,
+        },
+    }
+}
 
 // A step that starts nothing, with these actions.
 pub fn quiet_step(d: Driver, actions: Actions) -> Outcome

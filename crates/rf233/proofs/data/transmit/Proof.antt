@@ -63,7 +63,8 @@ not-4 c =
     (c .if6 .left)
 
 not-8 : (c : tie.Else7)
-    → let x = past-4 c .before .before .before .before .before .before .before .before .before .before .before .before .before .args in recordHas (x .d .buffers) (x .buffer) ≡ false
+    → let x = past-4 c .before .before .before .before .before .before .before .before .before .before .before .before .before .args in
+    recordHas (x .d .buffers) (x .buffer) ≡ false
 not-8 c = rw (c .before .record-has .ensures) at (c .if7 .left)
 
 returns : tie.Need-returns

@@ -4,7 +4,7 @@ use contract.Running.{givenOf, tables, tablesOf}
 use denote.Struct.Laws as LL
 use denote.Triple.Spec.{tripleOf}
 use denote.Triple.Table.{entered}
-use Rattle.rf233.specs.Transfer.{withUnder}
+use Rattle.rf233.specs.Driver.{withUnder}
 use Rattle.rf233.proofs.FieldWrite.{writes}
 use Rattle.rf233.proofs.driver.Buffers as S
 use Rattle.rf233.proofs.driver.Buffers.Laws as S′
@@ -30,7 +30,13 @@ with-under-spec 𝓤 H 𝓜 𝓖 𝓡 =
           o .1 .1 .0,
           (
             o .1 .1 .1 .0,
-            (o .1 .1 .1 .1 .0, (o .1 .1 .1 .1 .1 .0, (o .1 .1 .1 .1 .1 .1 .0, (o .1 .1 .1 .1 .1 .1 .1 .0, (f, o .1 .1 .1 .1 .1 .1 .1 .1 .1))))),
+            (
+              o .1 .1 .1 .1 .0,
+              (
+                o .1 .1 .1 .1 .1 .0,
+                (o .1 .1 .1 .1 .1 .1 .0, (o .1 .1 .1 .1 .1 .1 .1 .0, (f, o .1 .1 .1 .1 .1 .1 .1 .1 .1))),
+              ),
+            ),
           ),
         ),
       ),

@@ -5,7 +5,7 @@ use mathlib.Core.Bool.{Bool, true, false}
 use mathlib.Core.List.{[], _∷_}
 use borrow.Author.Needs.{needs}
 use Rattle.rf233.specs.Action.{actions}
-use Rattle.rf233.specs.Answer.{quiet}
+use Rattle.rf233.specs.Step.{quiet}
 use Rattle.rf233.specs.Choice.{pick}
 use Rattle.rf233.specs.Driver.{withState}
 use Rattle.rf233.specs.Driver.Flag.{wakePending}

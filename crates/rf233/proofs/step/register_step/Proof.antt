@@ -1,7 +1,7 @@
 -- `register_step` meets its contract: it takes both register buffers, or refrains, as its one test says. Assumes nothing.
 use borrow.Author.Needs.{needs}
 use Rattle.rf233.specs.Choice.{pick}
-use Rattle.rf233.specs.Transfer.{registerTransfer}
+use Rattle.rf233.specs.Starter.{registerTransfer}
 use Rattle.rf233.proofs.step.register_step.Statement.{statement}
 use Rattle.rf233.proofs.step.register_step.Tie as tie
 

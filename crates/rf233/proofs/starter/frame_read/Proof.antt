@@ -1,8 +1,8 @@
 -- `frame_read` meets its contract: with no receive buffer it refrains, and else it does as `frame_read_into`. Assumes nothing.
 use borrow.Author.Needs.{needs}
-use Rattle.rf233.specs.Transfer.{frameReadInto}
-use Rattle.rf233.proofs.transfer.frame_read.Statement.{statement}
-use Rattle.rf233.proofs.transfer.frame_read.Tie as tie
+use Rattle.rf233.specs.Starter.{frameReadInto}
+use Rattle.rf233.proofs.starter.frame_read.Statement.{statement}
+use Rattle.rf233.proofs.starter.frame_read.Tie as tie
 
 returns : tie.Need-returns
 unfolding frameReadInto

@@ -1,9 +1,9 @@
 -- `frame_write_from` meets its contract: it takes buffer 18 and the transmit buffer, or refrains, as its one test says. Assumes nothing.
 use borrow.Author.Needs.{needs}
 use Rattle.rf233.specs.Choice.{pick}
-use Rattle.rf233.specs.Transfer.{frameWriteFrom}
-use Rattle.rf233.proofs.transfer.frame_write_from.Statement.{statement}
-use Rattle.rf233.proofs.transfer.frame_write_from.Tie as tie
+use Rattle.rf233.specs.Starter.{frameWriteFrom}
+use Rattle.rf233.proofs.starter.frame_write_from.Statement.{statement}
+use Rattle.rf233.proofs.starter.frame_write_from.Tie as tie
 
 returns : tie.Need-returns
 unfolding frameWriteFrom pick

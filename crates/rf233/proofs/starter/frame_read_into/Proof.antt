@@ -1,9 +1,9 @@
 -- `frame_read_into` meets its contract: it takes buffer 18 and the receive buffer, or refrains, as its one test says. Assumes nothing.
 use borrow.Author.Needs.{needs}
 use Rattle.rf233.specs.Choice.{pick}
-use Rattle.rf233.specs.Transfer.{frameReadInto}
-use Rattle.rf233.proofs.transfer.frame_read_into.Statement.{statement}
-use Rattle.rf233.proofs.transfer.frame_read_into.Tie as tie
+use Rattle.rf233.specs.Starter.{frameReadInto}
+use Rattle.rf233.proofs.starter.frame_read_into.Statement.{statement}
+use Rattle.rf233.proofs.starter.frame_read_into.Tie as tie
 
 returns : tie.Need-returns
 unfolding frameReadInto pick

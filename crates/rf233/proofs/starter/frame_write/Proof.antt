@@ -1,8 +1,8 @@
 -- `frame_write` meets its contract: with no transmit buffer it refrains, and else it does as `frame_write_from`. Assumes nothing.
 use borrow.Author.Needs.{needs}
-use Rattle.rf233.specs.Transfer.{frameWriteFrom}
-use Rattle.rf233.proofs.transfer.frame_write.Statement.{statement}
-use Rattle.rf233.proofs.transfer.frame_write.Tie as tie
+use Rattle.rf233.specs.Starter.{frameWriteFrom}
+use Rattle.rf233.proofs.starter.frame_write.Statement.{statement}
+use Rattle.rf233.proofs.starter.frame_write.Tie as tie
 
 returns : tie.Need-returns
 unfolding frameWriteFrom

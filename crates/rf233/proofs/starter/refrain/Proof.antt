@@ -1,7 +1,7 @@
 -- `refrain` meets its contract: the transfer that it yields is none, as `no_transfer` says. Assumes nothing.
 use borrow.Author.Needs.{needs}
-use Rattle.rf233.proofs.transfer.refrain.Statement.{statement}
-use Rattle.rf233.proofs.transfer.refrain.Tie as tie
+use Rattle.rf233.proofs.starter.refrain.Statement.{statement}
+use Rattle.rf233.proofs.starter.refrain.Tie as tie
 
 returns : tie.Need-returns
 returns c = rw (c .no-transfer .ensures)
