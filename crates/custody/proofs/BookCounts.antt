@@ -3,28 +3,13 @@
 use mathlib.Core.Path.{_≡_, refl, sym, _∙_, ap}
 use mathlib.Core.Bool.{Bool, true, false, cond}
 use mathlib.Core.List.{List, [], _∷_}
-use Prim.Native.Nat.{ℕ, zero, suc}
+use Prim.Native.Nat.{ℕ}
 use native.Mathlib.Nat.{mod-mod, mod-add-mod}
 use native.Mathlib.Omega.{arith}
 use lib.Dec.{eqb}
-use lib.ListN.{length, getD, set}
+use lib.ListN.{length, getD}
 use Rattle.rf233.specs.Answer.{answerNo}
-use Rattle.custody.specs.Book.{
-  Page,
-  page,
-  Fed,
-  brought,
-  endPlaces,
-  ended,
-  called,
-  given,
-  noted,
-  notedAll,
-  taken,
-  begun,
-  turnedDown,
-  entered,
-}
+use Rattle.custody.specs.Book.{Page, Fed, brought, ended, called, given, noted, notedAll, begun, turnedDown, entered}
 use Rattle.custody.specs.BookCode.{wrapped}
 use Rattle.custody.specs.Book.Fed.{lendsTransmit, lendsReceive, completes, other}
 use Rattle.rf233.specs.declared.action.Action.{Action}

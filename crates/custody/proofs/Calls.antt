@@ -1,22 +1,22 @@
 -- Each call of demand 3 keeps the invariant of Custody.antt, refused or not. Assumes nothing.
 use mathlib.Core.Path.{_≡_, refl, sym, ap, subst, _∙_}
-use mathlib.Core.Bool.{Bool, true, false, not, _&&_, _||_, cond, and-false}
-use mathlib.Core.List.{List, [], _∷_}
-use Prim.Native.Nat.{ℕ, _+_, _≤_, _<_}
+use mathlib.Core.Bool.{Bool, true, false, not, _&&_, _||_, and-false}
+use mathlib.Core.List.{List, []}
+use Prim.Native.Nat.{ℕ, _+_}
 use native.Mathlib.Omega.{arith}
 use lib.Dec.{T, eqb, leb, ltb}
 use lib.IntN.{ℤ}
-use borrow.Author.Tests.{le-leb, leb-true, lt-leb, ltb-false, leb-false, not-true}
+use borrow.Author.Tests.{le-leb, ltb-false, leb-false, not-true}
 use Rattle.rf233.specs.Action.{actions}
 use Rattle.rf233.specs.Answer.{answerNo, answerOf, refused}
 use Rattle.rf233.specs.Step.{stepOf, quiet}
-use Rattle.custody.specs.Book.{Page, Fed, called, entered, ended, begun, notedAll, turnedDown}
+use Rattle.custody.specs.Book.{Page, Fed, called, entered, ended}
 use Rattle.custody.specs.Book.Fed.{completes, other, lendsTransmit, lendsReceive}
 use Rattle.rf233.specs.Guard.{Called}
-use Rattle.rf233.specs.Data.{lent, handleBad, txBusy, rxFull, beginTransmit, transmitCall, receiveBufferCall}
+use Rattle.rf233.specs.Data.{lent, handleBad, txBusy, beginTransmit, transmitCall, receiveBufferCall}
 use Rattle.rf233.specs.Config.{beginStart, startCall, beginStop, stopCall, beginCommit, commitCall, resetCall, setPower, setChannel}
 use Rattle.rf233.specs.Kernel.{firedCall, completing, completionCall}
-use Rattle.rf233.specs.Choice.{pick, oneOf, within}
+use Rattle.rf233.specs.Choice.{pick}
 use Rattle.custody.specs.Claim.{Call, kindOf, fed, yields}
 use Rattle.custody.specs.Claim.Call.{
   start,
@@ -36,26 +36,16 @@ use Rattle.custody.specs.Claim.Call.{
   listener,
 }
 use Rattle.rf233.specs.Record.{isHeld, recordHas}
-use Rattle.rf233.specs.Completion.{buffersBack, frameDone, transferOver, completed}
+use Rattle.rf233.specs.Completion.{buffersBack, transferOver, completed}
 use Rattle.rf233.specs.Interrupt.{handleInterrupt}
-use Rattle.rf233.specs.Driver.{inNo, flag, flagged, withState, withBuffers}
-use Rattle.rf233.specs.Driver.Flag.{
-  radioOn,
-  transmitting,
-  interruptHandling,
-  interruptPending,
-  configPending,
-  sleepPending,
-  wakePending,
-  receiving,
-}
+use Rattle.rf233.specs.Driver.{flag, flagged, withState, withBuffers}
+use Rattle.rf233.specs.Driver.Flag.{radioOn, transmitting, interruptHandling, configPending, sleepPending, wakePending, receiving}
 use Rattle.rf233.specs.Record as rec
-use Rattle.rf233.specs.Described.{txLengthBad, rxLengthBad, lengthBad, heldBesides, described, frameNo, frameUnfit, bufferMissing}
+use Rattle.rf233.specs.Described.{txLengthBad, rxLengthBad, lengthBad, heldBesides, described, frameNo, bufferMissing}
 use Rattle.rf233.specs.State.{stateNo, stateFrame}
 use Rattle.rf233.specs.Transfer.{isIdle}
-use Rattle.rf233.specs.Starter.{refrains, registerTransfer}
+use Rattle.rf233.specs.Starter.{registerTransfer}
 use Rattle.rf233.specs.declared.answer.Answer.{Answer}
-use Rattle.rf233.specs.declared.answer.Answer.the-variants.{Done}
 use Rattle.rf233.specs.declared.answer.Outcome.{Outcome}
 use Rattle.rf233.specs.declared.arrived.Arrived.{Arrived}
 use Rattle.rf233.specs.declared.driver.Buffers.{Buffers}
@@ -64,15 +54,13 @@ use Rattle.rf233.specs.declared.driver.Slot.{Slot}
 use Rattle.rf233.specs.declared.driver.Slot.the-variants.{Empty, Held}
 use Rattle.rf233.specs.declared.driver.Under.{Under}
 use Rattle.rf233.specs.declared.driver.Under.the-variants.{Idle, Register, FrameRead, FrameWrite}
-use Rattle.rf233.specs.declared.state.InternalState.{InternalState}
 use Rattle.rf233.specs.declared.state.InternalState.the-variants.{«SLEEP_WAKE», «SLEEP_TRX_OFF», «CONFIG_SHORT0_SET», «TX_STATUS_PRECHECK1»}
 use Rattle.laws.proofs.Logic.{left, right, pair, is-true, is-false, both-left, both-right, nor-left, nor-right}
 use Rattle.rf233.proofs.ChoiceLaws.{branch, either}
 use Rattle.rf233.proofs.Accepted.{IsDone, done-handle, done-completed}
-use Rattle.custody.proofs.Custody.{Inv, After, Fits, Lengths, register-refrains, under-idle}
+use Rattle.custody.proofs.Custody.{Inv, After, Lengths, register-refrains, under-idle}
 use Rattle.custody.proofs.Phases.{asks, rest-handles, ready-keeps, result-keeps}
 use Rattle.rf233.proofs.Fit.{
-  Kind,
   kind,
   fit,
   joins,
@@ -93,7 +81,7 @@ use Rattle.rf233.proofs.Fit.{
   tx-fits,
   rx-fits,
 }
-use Rattle.rf233.proofs.Fit.Kind.{nothing, access, reading, writing}
+use Rattle.rf233.proofs.Fit.Kind.{access, reading, writing}
 use Rattle.custody.specs.Ranges.{transferFits, actionsFit, replyFits}
 use Rattle.custody.proofs.Match.{Match, ends, refuses, lends-tx, lends-rx, once, somewhere}
 

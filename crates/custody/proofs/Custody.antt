@@ -1,7 +1,7 @@
 -- Each part of a step keeps the invariant: the book agrees with the driver's record, the record fits the state, the lengths are within
 -- their bounds. Assumes nothing.
 use mathlib.Core.Path.{_≡_, refl, sym, ap, subst, _∙_}
-use mathlib.Core.Bool.{Bool, true, false, not, _&&_, _||_, cond}
+use mathlib.Core.Bool.{Bool, true, false, not, _&&_}
 use mathlib.Core.List.{List, [], _∷_, _++_, map}
 use Prim.Native.Nat.{ℕ, zero, suc, _+_, _≤_, suc-le-suc}
 use native.Mathlib.Omega.{arith}
@@ -12,22 +12,20 @@ use native.Mathlib.Nat.{not-suc-le-zero, le-of-suc-le-suc, le-refl, le-step}
 use Rattle.rf233_const.specs.Bits.{bitSet}
 use Rattle.rf233_const.specs.Command as command
 use Rattle.rf233_const.specs.Flags.{rxCrcValidBit}
-use Rattle.rf233.specs.Action.{actions, item}
-use Rattle.custody.specs.Book.{Page, begun, taken, noted, notedAll, given}
-use Rattle.rf233.specs.Choice.{pick, oneOf, within}
+use Rattle.rf233.specs.Action.{item}
+use Rattle.custody.specs.Book.{Page, begun, noted, notedAll, given}
+use Rattle.rf233.specs.Choice.{pick, within}
 use Rattle.custody.specs.Claim.{kindOf, underKind}
 use Rattle.rf233.specs.Record.{isHeld, bufferIn}
-use Rattle.rf233.specs.Driver.{Flag, Assignment, flag, setFlag, assignAll, flagNo, assigning, withState, withBuffers, recordWith}
+use Rattle.rf233.specs.Driver.{Assignment, flag, setFlag, assignAll, recordWith}
 use Rattle.rf233.specs.Driver.Flag.{transmitting, interruptHandling, crcValid}
 use Rattle.rf233.specs.Driver.Assignment.{put, putCrc}
-use Rattle.rf233.specs.Case.{perform, accessed, shown, handed, entering, withoutTx, withoutRx, ownCase, caseOf, treeAt}
+use Rattle.rf233.specs.Case.{accessed, shown, handed, withoutTx, withoutRx}
 use Rattle.rf233.specs.Record as rec
-use Rattle.rf233.specs.Described.{slotAbove, txLengthBad, rxLengthBad, lengthBad}
-use Rattle.rf233.specs.Rows.{Access, Shown, Next, Row, holds, eval}
-use Rattle.rf233.specs.Rows.Test.{lengthFits}
+use Rattle.rf233.specs.Described.{slotAbove, txLengthBad, rxLengthBad}
+use Rattle.rf233.specs.Rows.{Access, Shown}
 use Rattle.rf233.specs.Rows.Access.{none, reads, writes, readsLength, readsFrame, writesFrame}
 use Rattle.rf233.specs.Rows.Shown.{plain, powerChanged, configDone, sentBack, droppedBack, receivedBack}
-use Rattle.rf233.specs.Rows.Row.{does}
 use Rattle.rf233.specs.State.{stateNo}
 use Rattle.rf233.specs.Transfer.{isIdle, transferOf}
 use Rattle.rf233.specs.Starter.{begins, refrains, registerTransfer, frameRead, frameReadInto, frameWrite, frameWriteFrom}
@@ -44,25 +42,13 @@ use Rattle.rf233.specs.declared.driver.Under.{Under}
 use Rattle.rf233.specs.declared.driver.Under.the-variants.{Idle, Register, FrameRead, FrameWrite}
 use Rattle.rf233.specs.declared.driver.Slot.{Slot}
 use Rattle.rf233.specs.declared.driver.Slot.the-variants.{Empty, Held}
-use Rattle.rf233.proofs.Fit.Kind.{nothing, access, reading, writing}
-use Rattle.rf233.proofs.Fit.{Kind, kind, fit, final, joins, harmless, okShown, txLeft, rxLeft, nextNo, okAccess, okRow}
+use Rattle.rf233.proofs.Fit.Kind.{access, reading}
+use Rattle.rf233.proofs.Fit.{kind, fit, final, harmless, okShown, txLeft, rxLeft, okAccess}
 use Rattle.laws.proofs.Logic.{both-left, both-right, left, right, pair}
 use Rattle.rf233.proofs.ChoiceLaws.{branch}
 use Rattle.custody.specs.Ranges.{transferFits, actionFits, actionsFit}
 use Rattle.custody.proofs.BookLaws.{register-kind}
-use Rattle.custody.proofs.Match.{
-  Match,
-  noFrame,
-  begins-register,
-  begins-read,
-  begins-write,
-  ends,
-  gives-tx,
-  gives-rx,
-  lends-tx,
-  lends-rx,
-  refuses,
-}
+use Rattle.custody.proofs.Match.{Match, noFrame, begins-register, begins-read, begins-write, gives-tx, gives-rx}
 use Rattle.rf233.specs.Place.{transmitPlace, receivePlace}
 
 -- the record b with flags f fits state n

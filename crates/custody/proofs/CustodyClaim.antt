@@ -1,7 +1,7 @@
 -- Demand 3, `Custody` of specs/Claim.antt: one claim about any list of calls on any new driver, with any pool at each call. By induction
 -- on the list, from the invariant that every call keeps. Assumes nothing.
 use mathlib.Core.Path.{_≡_, refl, sym, ap, _∙_}
-use mathlib.Core.Bool.{Bool, true, false, not, _&&_, _||_, or-false}
+use mathlib.Core.Bool.{true, not, or-false}
 use mathlib.Core.List.{List, [], _∷_}
 use Prim.Native.Nat.{ℕ, _<_}
 use native.Mathlib.Omega.{arith}
@@ -19,7 +19,7 @@ use Rattle.rf233.specs.declared.answer.Outcome.{Outcome}
 use Rattle.custody.specs.Ranges.{InRange}
 use Rattle.rf233.specs.State.{stateNo}
 use Rattle.rf233.specs.declared.driver.Driver.{Driver}
-use Rattle.custody.proofs.Custody.{Inv, Lengths}
+use Rattle.custody.proofs.Custody.{Inv}
 use Rattle.custody.proofs.Calls.{keeps, sound}
 use Rattle.rf233.proofs.Conditions.{by-flag}
 use Rattle.rf233.proofs.Fit.{fit}

@@ -1,33 +1,31 @@
 -- Each part of a completion, and a firing, keeps the invariant of Custody.antt. From the row test of Fit.antt and the moves of Match.antt.
 -- Assumes nothing.
 use mathlib.Core.Path.{_≡_, refl, sym, ap, subst, _∙_}
-use mathlib.Core.Bool.{Bool, true, false, not, _&&_, _||_, cond}
-use mathlib.Core.List.{List, [], _∷_}
-use Prim.Native.Nat.{ℕ, _≤_}
+use mathlib.Core.Bool.{Bool, true, false, not, _&&_, _||_}
+use mathlib.Core.List.{List, []}
+use Prim.Native.Nat.{ℕ}
 use native.Mathlib.Nat.{le-trans}
 use lib.Dec.{T, eqb, leb, leb→le}
 use lib.ListN.{length}
 use Rattle.rf233.specs.Action.{actions}
-use Rattle.rf233.specs.Step.{stepOf, quiet, transitionRead, transitionWrite}
-use Rattle.custody.specs.Book.{Page, begun, notedAll}
-use Rattle.rf233.specs.Choice.{pick, oneOf}
+use Rattle.rf233.specs.Step.{stepOf}
+use Rattle.custody.specs.Book.{Page, begun}
+use Rattle.rf233.specs.Choice.{pick}
 use Rattle.custody.specs.Claim.{kindOf}
 use Rattle.rf233.specs.Record.{isHeld}
-use Rattle.rf233.specs.Driver.{inNo, Assignment, flag, assignAll, assigning, flagged, withState, withBuffers}
+use Rattle.rf233.specs.Driver.{Assignment, flag, assignAll, assigning, flagged, withState, withBuffers}
 use Rattle.rf233.specs.Completion.{fallsOn, waitingCommit, pendingInterrupt, readyBookkeeping, frameEnd, interruptResult, nowOn}
-use Rattle.rf233.specs.Interrupt.{handleInterrupt, interruptState, rxStart, trxEnd, pllLock}
-use Rattle.rf233.specs.Driver.Flag.{transmitting, interruptHandling, receiving, interruptPending, configPending}
-use Rattle.rf233.specs.Case.{perform, accessed, caseOf, ownCase, shown, handed, entering, trees, treeAt}
-use Rattle.rf233.specs.Rows.{Access, Shown, Next, Row, holds, eval}
+use Rattle.rf233.specs.Interrupt.{handleInterrupt, interruptState, rxStart}
+use Rattle.rf233.specs.Driver.Flag.{transmitting, interruptHandling, receiving, interruptPending}
+use Rattle.rf233.specs.Case.{perform, accessed, caseOf, ownCase, shown, handed, trees, treeAt}
+use Rattle.rf233.specs.Rows.{Access, Shown, Row, holds, eval}
 use Rattle.rf233.specs.Rows.Test.{lengthFits}
 use Rattle.rf233.specs.Rows.Next.{same, to}
 use Rattle.rf233.specs.Rows.Row.{does}
 use Rattle.rf233.specs.State.{stateNo}
 use Rattle.rf233.specs.Transfer.{isIdle}
 use Rattle.rf233.specs.Starter.{registerTransfer}
-use Rattle.rf233.specs.declared.answer.Outcome.{Outcome}
 use Rattle.rf233.specs.declared.arrived.Arrived.{Arrived}
-use Rattle.rf233.specs.declared.driver.Buffers.{Buffers}
 use Rattle.rf233.specs.declared.driver.Driver.{Driver}
 use Rattle.rf233.specs.declared.state.InternalState.{InternalState}
 use Rattle.rf233.specs.declared.state.InternalState.the-variants.{
@@ -40,9 +38,7 @@ use Rattle.rf233.specs.declared.state.InternalState.the-variants.{
 use Rattle.custody.proofs.Custody.{
   Inv,
   After,
-  Fits,
   Lengths,
-  Begun,
   notes,
   filled,
   filled-fits,
@@ -69,7 +65,6 @@ use Rattle.rf233.proofs.Fit.{
   okRow,
   txLeft,
   rxLeft,
-  nextNo,
   row-fits,
   not-handling,
   to-46,

@@ -12,7 +12,7 @@ use Rattle.rf233.specs.declared.action.Item.{Item}
 use Rattle.rf233.specs.declared.answer.Outcome.{Outcome}
 use Rattle.rf233.specs.declared.answer.Reply.{Reply}
 use Rattle.rf233.specs.declared.transfer.Transfer.{Transfer}
-use Rattle.custody.specs.Claim.{World, Event, Call, run, newWorld, yields}
+use Rattle.custody.specs.Claim.{Event, Call, run, newWorld, yields}
 
 -- no transfer: nothing is sent
 abbrev pub nothingSent : Transfer → Bool

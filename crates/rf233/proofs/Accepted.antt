@@ -1,18 +1,17 @@
 -- What an accepted and a refused event leave: an accepted completion is the step `completed` on the copied bytes, an accepted firing is
 -- `handleInterrupt`, and a refused event leaves the driver as it was. From this: a step's own answer is always done. Assumes nothing.
-use mathlib.Core.Path.{_≡_, refl, sym, ap, subst, _∙_}
-use mathlib.Core.Bool.{Bool, true, false, not, _&&_, _||_}
+use mathlib.Core.Path.{_≡_, refl, sym, ap, _∙_}
+use mathlib.Core.Bool.{Bool, true, false}
 use mathlib.Core.List.{List}
 use Prim.Native.Nat.{ℕ}
-use lib.Dec.{T, eqb}
+use lib.Dec.{eqb}
 use Rattle.rf233.proofs.EveryStep.{OfSteps, every-firing, every-completion}
 use Rattle.rf233.proofs.ChoiceLaws.{either}
 use Rattle.rf233.specs.Answer.{answerNo}
-use Rattle.rf233.specs.Guard.{Called, guarded, poolFault}
+use Rattle.rf233.specs.Guard.{Called, poolFault}
 use Rattle.rf233.specs.Kernel.{completing, completionCall, firedCall, arrivedBad}
 use Rattle.rf233.specs.Arrived.{arrivedOf}
-use Rattle.rf233.specs.Choice.{pick, oneOf}
-use Rattle.rf233.specs.Driver.{inNo}
+use Rattle.rf233.specs.Choice.{pick}
 use Rattle.rf233.specs.Interrupt.{handleInterrupt}
 use Rattle.rf233.specs.Completion.{completed}
 use Rattle.rf233.specs.Case.{perform, caseOf, ownCase, treeAt}

@@ -2,8 +2,8 @@
 -- numbers say the same (`same-number`). Assumes nothing.
 use mathlib.Core.Path.{_≡_, refl, sym, ap, _∙_}
 use Prim.Native.Nat.{ℕ, _<_}
-use lib.Dec.{T, eqb, eqb→eq}
-use Rattle.laws.proofs.Logic.{all-below, below-at}
+use lib.Dec.{eqb, eqb→eq}
+use Rattle.laws.proofs.Logic.{below-at}
 use Rattle.rf233.specs.Answer.{answerNo, answerOf}
 use Rattle.rf233.specs.declared.answer.Answer.{Answer}
 use Rattle.rf233.specs.declared.answer.Answer.the-variants as answer

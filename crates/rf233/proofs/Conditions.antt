@@ -7,7 +7,7 @@ use native.Mathlib.Omega.{arith}
 use borrow.Author.Tests.{eq-eqb, ne-eqb, le-leb, lt-leb}
 use Rattle.rf233.specs.Choice.{oneOf}
 use Rattle.rf233.specs.Driver.{Flag, Client, flag, client}
-use Rattle.rf233.specs.Rows.{Test, holds}
+use Rattle.rf233.specs.Rows.{holds}
 use Rattle.rf233.specs.Rows.Test.{statusIn, lengthFits, isSet, listens}
 use Rattle.rf233.specs.declared.arrived.Arrived.{Arrived}
 use Rattle.rf233.specs.declared.driver.Driver.{Driver}

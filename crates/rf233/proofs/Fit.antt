@@ -22,7 +22,7 @@ use Rattle.rf233.specs.Driver.Flag.{
   powerClientPending,
 }
 use Rattle.rf233.specs.Driver.Assignment.{put, putCrc}
-use Rattle.rf233.specs.Rows.{Test, Access, Shown, Next, Row, Tree, holds, eval}
+use Rattle.rf233.specs.Rows.{Access, Shown, Next, Row, Tree, holds, eval}
 use Rattle.rf233.specs.Case.{trees, treeAt}
 use Rattle.rf233.specs.Rows.Test.{statusIn, lengthFits, isSet, listens}
 use Rattle.rf233.specs.Rows.Access.{none, reads, writes, readsLength, readsFrame, writesFrame}

@@ -3,7 +3,7 @@
 -- seen, nor a frame transfer that lacks its buffer. From one test over the rows of all states (`rows-take`), and one over states and kinds
 -- of transfer for the return of the buffers (`return-keeps`). Assumes nothing.
 use Prim.Native.Nat.{ℕ}
-use mathlib.Core.Path.{_≡_, refl, sym, ap, subst, _∙_}
+use mathlib.Core.Path.{_≡_, refl}
 use mathlib.Core.Bool.{Bool, true, false, not, _&&_, _||_}
 use mathlib.Core.List.{List, [], _∷_}
 use lib.Dec.{T, eqb, ltb}
@@ -11,22 +11,19 @@ use borrow.Author.Tests.{not-false}
 use Rattle.laws.proofs.Logic.{
   left,
   right,
-  pair,
   is-true,
-  is-false,
   nor-left,
   nor-right,
   none-left,
   none-right,
   imp,
   apply,
-  applied,
   all,
   all-at,
   all-below,
   below-at,
 }
-use Rattle.rf233.specs.Case.{perform, caseOf, ownCase, trees, treeAt}
+use Rattle.rf233.specs.Case.{ownCase, trees, treeAt}
 use Rattle.rf233.specs.Choice.{oneOf}
 use Rattle.rf233.specs.Completion.{buffersBack, transferOver, completed}
 use Rattle.rf233.specs.Described.{

@@ -1,7 +1,7 @@
 -- What an arm of a `match` on the state is told, its keys, as a fact about the state's number: `at-keys` for what holds at each key,
 -- `at-state` for a test, `named` and `between` for what a callee requires (one of a list; from here to there). For a `_` arm, whose keys
 -- are `rest`: `elsewhere` and `not-at` for a test, `unreached` where a `requires` rules the arm out. Assumes nothing.
-use mathlib.Core.Path.{_≡_, refl, sym, ap, _∙_, subst}
+use mathlib.Core.Path.{_≡_, sym, ap, _∙_, subst}
 use mathlib.Core.Bool.{Bool, true, false, not, cond, _&&_}
 use mathlib.Core.List.{List, [], _∷_}
 use mathlib.Core.Logic.{inl, inr}

@@ -2,7 +2,7 @@
 -- nothing.
 use Prim.Native.Nat.{ℕ, _+_}
 use mathlib.Core.Path.{_≡_, refl, sym, _∙_}
-use mathlib.Core.Bool.{Bool, true, false, not, _&&_, _||_, and-false, or-true, or-false, or-assoc, or-comm}
+use mathlib.Core.Bool.{Bool, false, not, _&&_, _||_, and-false, or-true, or-false, or-assoc, or-comm}
 use lib.Dec.{eqb, ltb}
 use Rattle.rf233.specs.Record.{isHeld, txUnderWay, rxUnderWay}
 use Rattle.rf233.specs.State.{stateNo, stateFrame}

@@ -1,7 +1,7 @@
 -- What holds of a driver that refusal 12 does not describe, and of the pool: the transfer under way reads into a buffer of the pool, and
 -- its shorter length is at most a buffer's. Assumes nothing.
-use mathlib.Core.Path.{_≡_, refl, sym, _∙_}
-use mathlib.Core.Bool.{Bool, true, false, not, _&&_, _||_}
+use mathlib.Core.Path.{_≡_}
+use mathlib.Core.Bool.{true, false, not}
 use Prim.Native.Nat.{ℕ, _+_, _*_, _≤_, min}
 use native.Mathlib.Omega.{arith}
 use lib.Dec.{eqb, leb, lit≤}

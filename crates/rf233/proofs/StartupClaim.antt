@@ -3,7 +3,7 @@
 use mathlib.Core.Path.{_≡_, refl, sym, ap, subst, _∙_}
 use mathlib.Core.Bool.{Bool, true, false, not, _&&_, _||_}
 use mathlib.Core.List.{List, [], _∷_, map}
-use Prim.Native.Nat.{ℕ, zero, suc, _+_, _≤_, _<_}
+use Prim.Native.Nat.{ℕ, _+_, _≤_}
 use native.Mathlib.Omega.{arith}
 use native.Mathlib.Nat.{le-antisymm, lt-irrefl, lt-of-not-le}
 use native.Mathlib.Decide.{decLe}
@@ -21,7 +21,7 @@ use Rattle.rf233.specs.Case.{caseOf, perform, trees, treeAt}
 use Rattle.rf233.specs.Create.{newDriver}
 use Rattle.rf233.specs.Guard.{poolFault}
 use Rattle.rf233.specs.Rows.{eval, holds}
-use Rattle.rf233.specs.StartupClaim.{after, accepted, showsLock, Starting, StartsWithin30, StartupClaim}
+use Rattle.rf233.specs.StartupClaim.{after, accepted, showsLock, Starting, StartupClaim}
 use Rattle.rf233.specs.StartupClaim.Starting.{begins, completes, fires, completionRefused, firingRefused}
 use Rattle.rf233.specs.State.{stateNo}
 use Rattle.rf233.specs.Transfer.{isIdle}
@@ -29,10 +29,9 @@ use Rattle.rf233.specs.Starter.{registerTransfer}
 use Rattle.rf233.specs.declared.arrived.Arrived.{Arrived}
 use Rattle.rf233.specs.declared.driver.Driver.{Driver}
 use Rattle.rf233.specs.declared.driver.Slot.the-variants.{Empty}
-use Rattle.rf233.specs.declared.driver.Under.{Under}
 use Rattle.rf233.specs.declared.driver.Under.the-variants.{Idle, Register}
 use Rattle.rf233.specs.declared.state.InternalState.{InternalState}
-use Rattle.laws.proofs.Logic.{clash, both-left, both-right}
+use Rattle.laws.proofs.Logic.{both-left, both-right}
 use Rattle.rf233.proofs.Accepted.{
   past,
   arrived,

@@ -1,7 +1,7 @@
 -- Document 01: a step yields at most six actions, in order. A list of them as the code holds it: how many, and six places, filled up
 -- with `Nothing`.
 use Prim.Native.Nat.{ℕ}
-use mathlib.Core.List.{List, [], _∷_, _++_, map}
+use mathlib.Core.List.{List, _++_, map}
 use lib.ListN.{length, take, replicate}
 use Rattle.rf233.specs.declared.action.Action.{Action}
 use Rattle.rf233.specs.declared.action.Action.the-variants.{Nothing}

@@ -1,7 +1,7 @@
 -- A new driver (document 01, refusal 15; the Rust's `new`).
 use Prim.Native.Nat.{ℕ}
-use mathlib.Core.Bool.{Bool, true, false, _&&_}
-use mathlib.Core.List.{[], _∷_}
+use mathlib.Core.Bool.{true, false, _&&_}
+use mathlib.Core.List.{[]}
 use lib.ListN.{replicate}
 use Rattle.rf233.specs.Action.{actions}
 use Rattle.rf233.specs.Step.{quiet}

@@ -4,11 +4,10 @@ use Prim.Native.Nat.{ℕ}
 use mathlib.Core.List.{List, [], _∷_, _++_, map}
 use lib.ListN.{getD, take, drop}
 use Rattle.rf233_const.specs.Settings.{startupValues}
-use Rattle.rf233_const.specs.declared.register.RF233Register.{RF233Register}
 use Rattle.rf233_const.specs.declared.register.RF233Register.the-variants as register
 use Rattle.rf233_const.specs.declared.status.ExternalState.the-variants as external
 use Rattle.rf233_const.specs.declared.trx_state.RF233TrxCmd.the-variants as cmd
-use Rattle.rf233.specs.Rows.{Access, Shown, Tree, statusIs, stay, read, write}
+use Rattle.rf233.specs.Rows.{Shown, Tree, statusIs, stay, read, write}
 use Rattle.rf233.specs.Rows.Access.{writes}
 use Rattle.rf233.specs.Rows.Next.{to}
 use Rattle.rf233.specs.Rows.Row.{does}

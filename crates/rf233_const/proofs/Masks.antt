@@ -1,8 +1,7 @@
 -- What `&` and `|` do to the fields of a number, as laws about `/` and `%`: `masked` for a mask that covers a field, `bit-tested` for
 -- a test of one bit, `over-address` for a command above a register's address. Assumes nothing.
-use mathlib.Core.Path.{_≡_, refl, _∙_, sym, ap, ap₂}
-use mathlib.Core.Bool.{Bool, true, false}
-use Prim.Native.Nat.{ℕ, zero, _+_, _-_, _*_, _^_, _<_}
+use mathlib.Core.Path.{_≡_, _∙_, sym, ap}
+use Prim.Native.Nat.{ℕ, _+_, _-_, _^_, _<_}
 use native.Mathlib.Nat.{eq-of-mul-eq-mul-right}
 use lib.Bits.{bitAnd, bitOr, and-high, or-shifted-r}
 use lib.Pow.{pow-pos, high-ones}

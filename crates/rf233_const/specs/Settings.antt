@@ -1,6 +1,6 @@
 -- What startup writes to the registers that are set to constants, from the fields that the datasheet gives them, and the default
 -- addresses.
-use Prim.Native.Nat.{ℕ, _+_}
+use Prim.Native.Nat.{_+_}
 use mathlib.Core.List.{[], _∷_}
 use Rattle.rf233_const.specs.Bits.{fieldAt}
 use Rattle.rf233_const.specs.declared.settings.StartupValues.{StartupValues}

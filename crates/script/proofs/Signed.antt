@@ -1,11 +1,11 @@
 -- Laws of numbers with a sign: a small one fits a wider type, and so do its negation and its size. Assumes nothing.
-use mathlib.Core.Path.{_≡_, refl, sym, _∙_}
-use mathlib.Core.Bool.{Bool, true, false, true≢false}
-use Prim.Native.Nat.{ℕ, zero, suc, _+_, _≤_, _<_}
+use mathlib.Core.Path.{_≡_}
+use mathlib.Core.Bool.{true, false, true≢false}
+use Prim.Native.Nat.{ℕ, zero, suc, _+_, _≤_}
 use native.Mathlib.Omega.{arith}
 use borrow.Author.Tests.{ltb-true, lt-ltb}
 use lib.Dec.{T}
-use lib.IntN.{ℤ, pos, negsuc, negℤ, natAbs, _-ℤ_, +ℤ-idl}
+use lib.IntN.{ℤ, pos, negsuc, natAbs, _-ℤ_, +ℤ-idl}
 use lib.Signed.{ltZ, nonNeg}
 use mir.Syntax.{w8, w64}
 use mir.Val.{Fits, SFits, toZ}

@@ -1,7 +1,7 @@
 -- `end_transfer` meets its contract, by whether a transfer is under way. Assumes nothing.
 use borrow.Author.Needs.{needs}
 use borrow.Author.Tests.{eq-eqb, ne-eqb}
-use native.Mathlib.Nat.{mod-mod, mod-add-mod}
+use native.Mathlib.Nat.{mod-mod}
 use Rattle.custody.specs.BookCode.{wrapped}
 use Rattle.custody.proofs.book.end_transfer.Statement.{statement}
 use Rattle.custody.proofs.book.end_transfer.Tie as tie

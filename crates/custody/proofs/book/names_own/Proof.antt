@@ -1,5 +1,4 @@
 -- `names_own` meets its contract, by the kind. Assumes nothing.
-use borrow.Author.Needs.{needs}
 use borrow.Author.Tests.{eq-eqb, ne-eqb}
 use Rattle.custody.proofs.book.names_own.Statement.{statement}
 use Rattle.custody.proofs.book.names_own.Tie as tie

@@ -1,5 +1,4 @@
 -- `new_book` meets its contract: a count of 0 is 0 modulo 2 ^ 64. Assumes nothing.
-use borrow.Author.Needs.{needs}
 use Rattle.custody.specs.BookCode.{wrapped}
 use mathlib.Core.Path.{refl}
 use Rattle.custody.proofs.book.new_book.Statement.{statement}

@@ -1,6 +1,6 @@
 -- `take_buffers` meets its contract, by its calls. Assumes nothing.
 use borrow.Author.Needs.{needs}
-use native.Mathlib.Nat.{mod-mod, mod-add-mod}
+use native.Mathlib.Nat.{mod-mod}
 use Rattle.custody.specs.BookCode.{wrapped}
 use Rattle.custody.proofs.book.take_buffers.Statement.{statement}
 use Rattle.custody.proofs.book.take_buffers.Tie as tie

@@ -1,6 +1,5 @@
 -- `turn_down` meets its contract. Assumes nothing.
-use borrow.Author.Needs.{needs}
-use native.Mathlib.Nat.{mod-mod, mod-add-mod}
+use native.Mathlib.Nat.{mod-mod}
 use Rattle.custody.specs.BookCode.{wrapped}
 use Rattle.custody.proofs.book.turn_down.Statement.{statement}
 use Rattle.custody.proofs.book.turn_down.Tie as tie

@@ -1,5 +1,4 @@
 -- `write_from` meets its contract, by the kind. Assumes nothing.
-use borrow.Author.Needs.{needs}
 use borrow.Author.Tests.{eq-eqb, ne-eqb}
 use Rattle.custody.proofs.book.write_from.Statement.{statement}
 use Rattle.custody.proofs.book.write_from.Tie as tie

@@ -1,6 +1,5 @@
 -- `frame_done` meets its contract: each arm is an end of the choice that the definition makes. Assumes nothing.
 use borrow.Author.Needs.{needs}
-use mathlib.Core.Path.{_≡_, _∙_}
 use mathlib.Core.Bool.{false}
 use mathlib.Core.List.{[], _∷_}
 use lib.Dec.{eqb}

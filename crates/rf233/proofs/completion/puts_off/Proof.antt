@@ -1,7 +1,5 @@
 -- `puts_off` meets its contract: one arm has the four states of the list. Assumes nothing.
-use borrow.Author.Needs.{needs}
 use mathlib.Core.List.{[], _∷_}
-use mathlib.Core.Path.{sym}
 use Rattle.rf233.proofs.Keys.{named, elsewhere}
 use Rattle.rf233.proofs.completion.puts_off.Statement.{statement}
 use Rattle.rf233.proofs.completion.puts_off.Tie as tie

@@ -1,5 +1,4 @@
 -- `busy` meets its contract: one arm has the two states of the list. Assumes nothing.
-use borrow.Author.Needs.{needs}
 use mathlib.Core.List.{[], _∷_}
 use Rattle.rf233.proofs.Keys.{named, elsewhere}
 use Rattle.rf233.proofs.config.busy.Statement.{statement}
