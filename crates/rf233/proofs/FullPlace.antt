@@ -1,7 +1,7 @@
 -- Where the Rust says `unwrap`, the place is full: `unwrap-holds`. Of a driver value that refusal 12 does not describe, whatever it is, a
--- completion carries a row out only where each place that the row takes a buffer from is full, so that the 0 of `bufferIn Empty` is never
--- seen, nor a frame transfer that lacks its buffer. From one test over the rows of all states (`rows-take`), and one over states and kinds
--- of transfer for the return of the buffers (`return-keeps`). Assumes nothing.
+-- completion carries a row out only where each place that the row takes a buffer from is full, so that no notice names the 0 of
+-- `bufferIn Empty`, and no frame transfer lacks its buffer. From one test over the rows of all states (`rows-take`), and one over states
+-- and kinds of transfer for the return of the buffers (`return-keeps`). Assumes nothing.
 use Prim.Native.Nat.{ℕ}
 use mathlib.Core.Path.{_≡_, refl}
 use mathlib.Core.Bool.{Bool, true, false, not, _&&_, _||_}

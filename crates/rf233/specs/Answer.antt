@@ -48,7 +48,8 @@ answerNo New = 15
 -- the answers in the order of their numbers
 abbrev pub answers : List Answer
 answers =
-    Done ∷ Off ∷ Busy ∷ Size ∷ Long ∷ Inval ∷ Already ∷ Handle ∷ Held ∷ Short ∷ Full ∷ Idle ∷ Pool ∷ Arrived ∷ Configure ∷ New ∷ []
+    Done ∷ Off ∷ Busy ∷ Size ∷ Long ∷ Inval ∷ Already ∷ Handle
+    ∷ Held ∷ Short ∷ Full ∷ Idle ∷ Pool ∷ Arrived ∷ Configure ∷ New ∷ []
 
 -- the answer of a number; `answerNo` gives it back (`answer-of-number` and `number-of-answer` in proofs/Answers.antt)
 abbrev pub answerOf : ℕ → Answer

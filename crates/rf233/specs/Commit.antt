@@ -2,7 +2,6 @@
 use Prim.Native.Nat.{ℕ}
 use mathlib.Core.Bool.{false}
 use mathlib.Core.List.{List, [], _∷_, _++_, map}
-use lib.ListN.{getD}
 use Rattle.rf233_const.specs.declared.register.RF233Register.the-variants as register
 use Rattle.rf233.specs.Driver.Assignment.{put}
 use Rattle.rf233.specs.Driver.Flag.{configPending}
@@ -12,7 +11,7 @@ use Rattle.rf233.specs.Rows.Next.{to}
 use Rattle.rf233.specs.Rows.Row.{does}
 use Rattle.rf233.specs.Rows.Shown.{configDone}
 use Rattle.rf233.specs.Rows.Tree.{leaf}
-use Rattle.rf233.specs.Write.{row}
+use Rattle.rf233.specs.Write.{row, rowAt}
 use Rattle.rf233.specs.declared.state.InternalState.the-variants as state
 use Rattle.rf233.specs.declared.write.Value.the-variants.{Channel, Power, PanHigh, PanLow, AddrHigh, Long}
 use Rattle.rf233.specs.declared.write.Write.{Write}
@@ -37,7 +36,7 @@ commitTable =
 
 -- row k of the table, of 13
 abbrev pub commitRow : ℕ → Write
-commitRow k = getD commitTable k (row register.«TRX_STATE» Channel state.START)
+commitRow = rowAt commitTable
 
 -- the cases of the states 45 to 58
 abbrev pub commitTrees : List Tree

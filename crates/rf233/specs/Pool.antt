@@ -55,6 +55,7 @@ readLength (FrameWrite c l) b = b .«spi_buf_len»
 abbrev pub shorter : Buffers → ℕ
 shorter b = min (writeLength (b .under) b) (readLength (b .under) b)
 
--- byte 1 of the buffer in the receive place
+-- byte 1 of the buffer in the receive place. With an empty place it is buffer 0's and of no use: the case of 68 alone uses the byte, and 12
+-- describes a driver that has no receive buffer there
 abbrev pub lengthByte : Buffers → List ℕ → ℕ
 lengthByte b p = getD p (startOf (bufferIn (b .«rx_buf»)) + 1) 0

@@ -14,7 +14,7 @@ isHeld Empty = false
 isHeld (Held b l) = true
 
 -- the buffer in a place. Where the Rust says `unwrap` the place is full: for every driver value that 12 does not describe the row that is
--- carried out finds it so (`unwrap-holds` in proofs/FullPlace.antt), and the 0 of an empty place is never seen
+-- carried out finds it so (`unwrap-holds` in proofs/FullPlace.antt), and no notice names the 0 of an empty place
 abbrev pub bufferIn : Slot → ℕ
 bufferIn Empty = 0
 bufferIn (Held b l) = b

@@ -41,7 +41,8 @@ registerRead reg d = registerTransfer 1 (command.registerRead (registerAddress r
 abbrev pub registerWrite : RF233Register → ℕ → Driver → Started
 registerWrite reg v d = registerTransfer 2 (command.registerWrite (registerAddress reg)) v d
 
--- frame read of n into this place: 0x20 and whatever stands in buffer 18, 2 + n bytes; into the buffer there, at its own length
+-- frame read of n into this place, which is full where a row asks for it (`unwrap-holds` in proofs/FullPlace.antt): 0x20 and whatever
+-- stands in buffer 18, 2 + n bytes; into the buffer there, at its own length
 unfoldable pub frameReadInto : Slot → ℕ → Driver → Started
 frameReadInto Empty n d = refrains d
 frameReadInto (Held c l) n d =
@@ -55,7 +56,8 @@ frameReadInto (Held c l) n d =
 abbrev pub frameRead : ℕ → Driver → Started
 frameRead n d = frameReadInto (d .buffers .«rx_buf») n d
 
--- frame write of n from this place: 0x60, n and the frame from the buffer there, 2 + n bytes; into buffer 18, at the length that it has
+-- frame write of n from this place, likewise full: 0x60, n and the frame from the buffer there, 2 + n bytes; into buffer 18, at the length
+-- that it has
 unfoldable pub frameWriteFrom : Slot → Driver → Started
 frameWriteFrom Empty d = refrains d
 frameWriteFrom (Held c l) d =

@@ -2,7 +2,7 @@
 -- state"), and the case of each state.
 use Prim.Native.Nat.{ℕ}
 use mathlib.Core.List.{List, [], _∷_, _++_, map}
-use lib.ListN.{getD, take, drop}
+use lib.ListN.{take, drop}
 use Rattle.rf233_const.specs.Settings.{startupValues}
 use Rattle.rf233_const.specs.declared.register.RF233Register.the-variants as register
 use Rattle.rf233_const.specs.declared.status.ExternalState.the-variants as external
@@ -13,7 +13,7 @@ use Rattle.rf233.specs.Rows.Next.{to}
 use Rattle.rf233.specs.Rows.Row.{does}
 use Rattle.rf233.specs.Rows.Shown.{plain}
 use Rattle.rf233.specs.Rows.Tree.{leaf, ask}
-use Rattle.rf233.specs.Write.{row}
+use Rattle.rf233.specs.Write.{row, rowAt}
 use Rattle.rf233.specs.declared.action.Action.the-variants.{IrqMakeInput, IrqClear, IrqSetFloatingState, IrqEnableInterrupts}
 use Rattle.rf233.specs.declared.state.InternalState.the-variants as state
 use Rattle.rf233.specs.declared.write.Value.the-variants.{Constant, Command, Channel, Power, PanHigh, PanLow, AddrHigh, AddrLow, Long}
@@ -56,7 +56,7 @@ startupTable =
 
 -- row k of the table, of 25
 abbrev pub startupRow : ℕ → Write
-startupRow k = getD startupTable k (row register.«TRX_STATE» Channel state.START)
+startupRow = rowAt startupTable
 
 -- the pin is made ready for interrupts
 abbrev pub irqReady : List Shown

@@ -103,7 +103,7 @@ pub fn shorter_length(b: Buffers) -> u16
     if write <= read { write } else { read }
 }
 
-// Byte 1 of the buffer in the receive place.
+// Byte 1 of the buffer in the receive place; with an empty place nobody uses it.
 pub fn length_byte(b: Buffers, pool: &[u8]) -> u8
     ensures { λ r. ⌜ r ≡ lengthByte b (now (pool .entry)) ⌝ }
 {

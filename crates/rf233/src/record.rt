@@ -16,7 +16,7 @@ pub fn is_held(slot: Slot) -> bool
     }
 }
 
-// The buffer in a place, where the Rust says `unwrap`: the place is full wherever a step asks (`unwrap-holds` in proofs/FullPlace.antt).
+// The buffer in a place. Where the Rust says `unwrap` for a notice, the place is full (`unwrap-holds` in proofs/FullPlace.antt).
 pub fn buffer_in(slot: Slot) -> u8
     ensures { λ r. ⌜ r ≡ bufferIn slot ⌝ }
 {
