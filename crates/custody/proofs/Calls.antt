@@ -1,6 +1,6 @@
 -- Each call of demand 3 keeps the invariant of Custody.antt, refused or not. Assumes nothing.
-use mathlib.Core.Path.{_≡_, refl, sym, ap, subst, _∙_}
-use mathlib.Core.Bool.{Bool, true, false, not, _&&_, _||_, and-false}
+use mathlib.Core.Path.{_≡_, refl, sym, ap, subst}
+use mathlib.Core.Bool.{Bool, true, false, not, _&&_, _||_}
 use mathlib.Core.List.{List, []}
 use Prim.Native.Nat.{ℕ, _+_}
 use native.Mathlib.Omega.{arith}
@@ -9,15 +9,14 @@ use lib.IntN.{ℤ}
 use borrow.Author.Tests.{le-leb, ltb-false, leb-false, not-true}
 use Rattle.rf233.specs.Action.{actions}
 use Rattle.rf233.specs.Answer.{answerNo, answerOf, refused}
-use Rattle.rf233.specs.Step.{stepOf, quiet}
-use Rattle.custody.specs.Book.{Page, Fed, called, entered, ended}
+use Rattle.rf233.specs.Step.{quiet}
+use Rattle.custody.specs.Book.{Page, Fed, called, entered}
 use Rattle.custody.specs.Book.Fed.{completes, other, lendsTransmit, lendsReceive}
 use Rattle.rf233.specs.Guard.{Called}
 use Rattle.rf233.specs.Data.{lent, handleBad, txBusy, beginTransmit, transmitCall, receiveBufferCall}
 use Rattle.rf233.specs.Config.{beginStart, startCall, beginStop, stopCall, beginCommit, commitCall, resetCall, setPower, setChannel}
 use Rattle.rf233.specs.Kernel.{firedCall, completing, completionCall}
-use Rattle.rf233.specs.Choice.{pick}
-use Rattle.custody.specs.Claim.{Call, kindOf, fed, yields}
+use Rattle.custody.specs.Claim.{Call, fed, yields}
 use Rattle.custody.specs.Claim.Call.{
   start,
   stop,
@@ -36,240 +35,37 @@ use Rattle.custody.specs.Claim.Call.{
   listener,
 }
 use Rattle.rf233.specs.Record.{isHeld, recordHas}
-use Rattle.rf233.specs.Completion.{buffersBack, transferOver, completed}
+use Rattle.rf233.specs.Completion.{completed}
 use Rattle.rf233.specs.Interrupt.{handleInterrupt}
 use Rattle.rf233.specs.Driver.{flag, flagged, withState, withBuffers}
 use Rattle.rf233.specs.Driver.Flag.{radioOn, transmitting, interruptHandling, configPending, sleepPending, wakePending, receiving}
 use Rattle.rf233.specs.Record as rec
-use Rattle.rf233.specs.Described.{txLengthBad, rxLengthBad, lengthBad, heldBesides, described, frameNo, bufferMissing}
-use Rattle.rf233.specs.State.{stateNo, stateFrame}
+use Rattle.rf233.specs.Described.{txLengthBad}
+use Rattle.rf233.specs.State.{stateNo}
 use Rattle.rf233.specs.Transfer.{isIdle}
-use Rattle.rf233.specs.Starter.{registerTransfer}
 use Rattle.rf233.specs.declared.answer.Answer.{Answer}
 use Rattle.rf233.specs.declared.answer.Outcome.{Outcome}
-use Rattle.rf233.specs.declared.arrived.Arrived.{Arrived}
-use Rattle.rf233.specs.declared.driver.Buffers.{Buffers}
 use Rattle.rf233.specs.declared.driver.Driver.{Driver}
 use Rattle.rf233.specs.declared.driver.Slot.{Slot}
 use Rattle.rf233.specs.declared.driver.Slot.the-variants.{Empty, Held}
 use Rattle.rf233.specs.declared.driver.Under.{Under}
 use Rattle.rf233.specs.declared.driver.Under.the-variants.{Idle, Register, FrameRead, FrameWrite}
 use Rattle.rf233.specs.declared.state.InternalState.the-variants.{«SLEEP_WAKE», «SLEEP_TRX_OFF», «CONFIG_SHORT0_SET», «TX_STATUS_PRECHECK1»}
-use Rattle.laws.proofs.Logic.{left, right, pair, is-true, is-false, both-left, both-right, nor-left, nor-right}
+use Rattle.laws.proofs.Logic.{right, pair, is-false, both-left, both-right, nor-left, nor-right}
 use Rattle.rf233.proofs.ChoiceLaws.{branch, either}
 use Rattle.rf233.proofs.Accepted.{IsDone, done-handle, done-completed}
-use Rattle.custody.proofs.Custody.{Inv, After, Lengths, register-refrains, under-idle}
-use Rattle.custody.proofs.Phases.{asks, rest-handles, ready-keeps, result-keeps}
-use Rattle.rf233.proofs.Fit.{
-  kind,
-  fit,
-  joins,
-  frameOf,
-  doneNo,
-  done-no,
-  return-fits,
-  rx-empty,
-  tx-empty,
-  fit-frame,
-  fit-places,
-  join-same,
-  join-32,
-  join-30,
-  join-45,
-  join-33,
-  unsent,
-  tx-fits,
-  rx-fits,
-}
-use Rattle.rf233.proofs.Fit.Kind.{access, reading, writing}
+use Rattle.custody.proofs.Custody.{Inv, After, Lengths}
+use Rattle.rf233.proofs.Fit.{kind, fit, frameOf, join-same, join-32, join-30, join-45, join-33, unsent, tx-fits, rx-fits}
 use Rattle.custody.specs.Ranges.{transferFits, actionsFit, replyFits}
-use Rattle.custody.proofs.Match.{Match, ends, refuses, lends-tx, lends-rx, once, somewhere}
-
--- ---- refusal 12 describes no driver that meets the invariant
-
--- no buffer is held beside another of its kind under way
-besides-none : (b : Buffers) (n : ℕ) (s h : Bool) → T (fit (kind (b .under)) n (isHeld (b .«tx_buf»)) (isHeld (b .«rx_buf»)) s h)
-    → heldBesides b ≡ false
-besides-none b n s h o = go (b .under) o
-  where
-    go : (u : Under) → T (fit (kind u) n (isHeld (b .«tx_buf»)) (isHeld (b .«rx_buf»)) s h)
-        → ((isHeld (b .«tx_buf») && isHeld (rec.txUnderWay u)) || (isHeld (b .«rx_buf») && isHeld (rec.rxUnderWay u))) ≡ false
-    go Idle o = rw (and-false (isHeld (b .«tx_buf»)), and-false (isHeld (b .«rx_buf»)))
-    go Register o = rw (and-false (isHeld (b .«tx_buf»)), and-false (isHeld (b .«rx_buf»)))
-    go (FrameRead c l) o = rw (and-false (isHeld (b .«tx_buf»)), is-false (isHeld (b .«rx_buf»)) (rx-empty .gives reading _ _ _ _ _ o tt))
-    go (FrameWrite c l) o = rw (and-false (isHeld (b .«rx_buf»)), is-false (isHeld (b .«tx_buf»)) (tx-empty .gives writing _ _ _ _ _ o tt))
-
-lengths-good : (b : Buffers) → Lengths b → lengthBad b ≡ false
-lengths-good b g = rw (g .whole, g .present, g .tx, g .tx-under, g .rx, g .rx-under)
-
-frame-no : (u : Under) → frameNo u ≡ frameOf (kind u)
-frame-no Idle = refl
-frame-no Register = refl
-frame-no (FrameRead c l) = refl
-frame-no (FrameWrite c l) = refl
-
--- from a new driver 12 is given only for the pool's length
-pub sound : (k : Page) (d : Driver) → Inv k d → described d ≡ false
-unfolding described
-sound k d v =
-    let f = fit-frame .gives _ _ _ _ _ _ (v .fitted) tt in
-    let p = fit-places .gives _ _ _ _ _ _ (v .fitted) tt in
-    let n = stateNo (d .state) in
-    let u = d .buffers .under in
-    let e = eqb (frameOf (kind u)) (stateFrame n) in
-    let h = ltb 0 (frameOf (kind u)) && d .flags .«interrupt_handling» in
-    rw (
-      once (d .buffers) k (v .match),
-      somewhere (d .buffers) k (v .match),
-      v .match .below,
-      lengths-good (d .buffers) (v .lengths),
-      besides-none (d .buffers) n _ _ (v .fitted),
-      frame-no u,
-      is-true e (left e (not h) f),
-      is-false h (right e (not h) f),
-      is-false (bufferMissing (d .buffers) n) p,
-    )
-
--- ---- a firing during a transfer is remembered
-busy-handles : (k : Page) (d : Driver) → Inv k d → isIdle (d .buffers .under) ≡ false → After k (handleInterrupt d)
-unfolding handleInterrupt pick
-busy-handles k d v i = rw i (record { inv = record { match = v .match; fitted = v .fitted; lengths = v .lengths }; spans = tt; shows = tt })
-
--- ---- a completion
-
-lengths-back : (b : Buffers) → Lengths b → Lengths (buffersBack (b .under) b)
-lengths-back b g = go (b .under) refl
-  where
-    go : (u : Under) → b .under ≡ u → Lengths (buffersBack u b)
-    go Idle e = g
-    go Register e = record { whole = g .whole; present = g .present; tx = g .tx; tx-under = refl; rx = g .rx; rx-under = refl }
-    go (FrameRead c l) e =
-        record {
-          whole = g .whole;
-          present = g .present;
-          tx = g .tx;
-          tx-under = refl;
-          rx = ap (λ x. rxLengthBad (rec.rxUnderWay x)) (sym e)
-              ∙ g .rx-under;
-          rx-under = refl;
-        }
-    go (FrameWrite c l) e =
-        record {
-          whole = g .whole;
-          present = g .present;
-          tx = ap (λ x. txLengthBad (rec.txUnderWay x) (b .«tx_len»)) (sym e) ∙ g .tx-under;
-          tx-under = refl;
-          rx = g .rx;
-          rx-under = refl;
-        }
-
--- what is under way once the buffers are back: nothing, and each place is as full as `return-fits` has it
-back-fits : (b : Buffers) (n : ℕ) (s h : Bool) → isIdle (b .under) ≡ false
-    → T (fit (kind (b .under)) n (isHeld (b .«tx_buf»)) (isHeld (b .«rx_buf»)) s h)
-    → T (fit (kind (buffersBack (b .under) b .under)) (doneNo h n) (isHeld (buffersBack (b .under) b .«tx_buf»))
-    (isHeld (buffersBack (b .under) b .«rx_buf»)) s false)
-back-fits b n s h i o = go (b .under) i o
-  where
-    go : (u : Under) → isIdle u ≡ false → T (fit (kind u) n (isHeld (b .«tx_buf»)) (isHeld (b .«rx_buf»)) s h)
-        → T (fit (kind (buffersBack u b .under)) (doneNo h n) (isHeld (buffersBack u b .«tx_buf»)) (isHeld (buffersBack u b .«rx_buf»)) s
-        false)
-    go Idle i o = absurd (subst T i tt)
-    go Register i o = return-fits .gives access _ _ _ _ _ o tt
-    go (FrameRead c l) i o = return-fits .gives reading _ _ _ _ _ o tt
-    go (FrameWrite c l) i o = return-fits .gives writing _ _ _ _ _ o tt
-
-back-idle : (b : Buffers) → isIdle (b .under) ≡ false → isIdle (buffersBack (b .under) b .under) ≡ true
-back-idle b i = go (b .under) i
-  where
-    go : (u : Under) → isIdle u ≡ false → isIdle (buffersBack u b .under) ≡ true
-    go Idle i = absurd (subst T i tt)
-    go Register i = refl
-    go (FrameRead c l) i = refl
-    go (FrameWrite c l) i = refl
-
-returned-keeps : (k : Page) (d : Driver) → Inv k d → isIdle (d .buffers .under) ≡ false → Inv (ended k) (transferOver d)
-returned-keeps k d v i =
-    record {
-      match = ends (d .buffers) k (v .match) i (besides-none (d .buffers) _ _ _ (v .fitted));
-      fitted =
-          subst (λ n. T (fit (kind (buffersBack (d .buffers .under) (d .buffers) .under)) n
-          (isHeld (buffersBack (d .buffers .under) (d .buffers) .«tx_buf»))
-          (isHeld (buffersBack (d .buffers .under) (d .buffers) .«rx_buf»)) (flag transmitting (d .flags)) false))
-          (sym (done-no (flag interruptHandling (d .flags)) (d .state))) (back-fits (d .buffers) _ _ _ i (v .fitted));
-      lengths = lengths-back (d .buffers) (v .lengths);
-    }
-
-completed-keeps : (k : Page) (a : Arrived) (d : Driver) → Inv k d → isIdle (d .buffers .under) ≡ false → After (ended k) (completed a d)
-unfolding completed
-completed-keeps k a d v i =
-    branch (After (ended k)) _ _ _
-    (λ y. result-keeps (ended k) a (transferOver d) (returned-keeps k d v i) (back-idle (d .buffers) i))
-    (λ y. ready-keeps (ended k) a (transferOver d) (returned-keeps k d v i) (back-idle (d .buffers) i))
-
--- ---- whatever is under way
-
--- the kind of transfer that a request joins
-joins-busy : (u : Under) → isIdle u ≡ false → joins (kind u) ≡ kind u
-joins-busy Idle i = absurd (subst T i tt)
-joins-busy Register i = refl
-joins-busy (FrameRead c l) i = refl
-joins-busy (FrameWrite c l) i = refl
-
-joins-idle : (u : Under) → isIdle u ≡ true → joins (kind u) ≡ access
-joins-idle u i = ap (λ x. joins (kind x)) (under-idle u i)
-
--- the invariant of a driver that differs in state and flags
-others : (k : Page) (d e : Driver) → Inv k d → e .buffers ≡ d .buffers
-    → T (fit (kind (d .buffers .under)) (stateNo (e .state)) (isHeld (d .buffers .«tx_buf»)) (isHeld (d .buffers .«rx_buf»))
-    (flag transmitting (e .flags)) (flag interruptHandling (e .flags)))
-    → Inv k e
-others k d e v q o =
-    record {
-      match = subst (λ b. Match b k) (sym q) (v .match);
-      fitted =
-          subst (λ b. T (fit (kind (b .under)) (stateNo (e .state)) (isHeld (b .«tx_buf»)) (isHeld (b .«rx_buf»))
-          (flag transmitting (e .flags)) (flag interruptHandling (e .flags)))) (sym q) o;
-      lengths = subst Lengths (sym q) (v .lengths);
-    }
-
--- a register transfer is asked for
-asks-any : (k : Page) (d : Driver) → Inv k d → (e : Driver) → e .buffers ≡ d .buffers → (n x y : ℕ) → kindOf n ≡ 1 → eqb n 0 ≡ false
-    → T (fit (joins (kind (d .buffers .under))) (stateNo (e .state)) (isHeld (d .buffers .«tx_buf»)) (isHeld (d .buffers .«rx_buf»))
-    (flag transmitting (e .flags)) (flag interruptHandling (e .flags)))
-    → After k (stepOf (registerTransfer n x y e) (actions []))
-asks-any k d v e q n x y z w o = go (isIdle (d .buffers .under)) refl
-  where
-    go : (t : Bool) → isIdle (d .buffers .under) ≡ t → After k (stepOf (registerTransfer n x y e) (actions []))
-    go true i =
-        asks k d v i e q n x y z w (subst
-        (λ c. T (fit c (stateNo (e .state)) (isHeld (d .buffers .«tx_buf»)) (isHeld (d .buffers .«rx_buf»)) (flag transmitting (e .flags))
-        (flag interruptHandling (e .flags)))) (joins-idle (d .buffers .under) i) o)
-    go false i =
-        subst (λ st. After k (stepOf st (actions []))) (sym (register-refrains e n x y (ap (λ b. isIdle (b .under)) q ∙ i)))
-        (record {
-          inv = others k d e v q
-              (subst (λ c. T (fit c (stateNo (e .state)) (isHeld (d .buffers .«tx_buf»)) (isHeld (d .buffers .«rx_buf»))
-              (flag transmitting (e .flags)) (flag interruptHandling (e .flags)))) (joins-busy (d .buffers .under) i) o);
-          spans = tt;
-          shows = tt;
-        })
-
--- a firing
-fires-any : (k : Page) (d : Driver) → Inv k d → After k (handleInterrupt d)
-fires-any k d v = go (isIdle (d .buffers .under)) refl
-  where
-    go : (t : Bool) → isIdle (d .buffers .under) ≡ t → After k (handleInterrupt d)
-    go true i = rest-handles k (record { status = 0; result = 0; length = 0 }) d v i
-    go false i = busy-handles k d v i
-
--- ---- the calls
+use Rattle.custody.proofs.Match.{refuses, lends-tx, lends-rx}
+use Rattle.custody.proofs.Events.{completed-keeps, others, asks-any, fires-any}
 
 -- the invariant once a call is entered into the book, and the ranges of its reply
 pub record Entered (f : Fed) (k : Page) (o : Outcome) : Type 0 where
   pub inv : Inv (entered f (o .reply) k) (o .driver)
   pub fits : T (replyFits (o .reply))
 
--- a step that was taken
+-- a step that is done
 took : (f : Fed) (k : Page) (o : Outcome) → IsDone o → After (called f k) o → Entered f k o
 unfolding entered
 took f k o e w =

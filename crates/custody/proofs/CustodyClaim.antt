@@ -20,7 +20,8 @@ use Rattle.custody.specs.Ranges.{InRange}
 use Rattle.rf233.specs.State.{stateNo}
 use Rattle.rf233.specs.declared.driver.Driver.{Driver}
 use Rattle.custody.proofs.Custody.{Inv}
-use Rattle.custody.proofs.Calls.{keeps, sound}
+use Rattle.custody.proofs.Calls.{keeps}
+use Rattle.custody.proofs.Undescribed.{sound}
 use Rattle.rf233.proofs.Conditions.{by-flag}
 use Rattle.rf233.proofs.Fit.{fit}
 use Rattle.laws.proofs.Logic.{left, is-true, both-left}

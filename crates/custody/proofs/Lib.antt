@@ -2,6 +2,8 @@ pub mod BookLaws
 pub mod Match
 pub mod Custody
 pub mod Phases
+pub mod Undescribed
+pub mod Events
 pub mod Calls
 pub mod CustodyClaim
 pub mod BookCounts

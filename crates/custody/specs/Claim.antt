@@ -1,5 +1,6 @@
 -- Demand 3 (document 01, "The book of custody"): one claim about any list of calls on any new driver, 15's too, with any pool at each call.
--- The calls are the definitions that the public calls' promises equal (specs/Calls.antt), so that the claim speaks of the code.
+-- The calls are the definitions that the public calls' promises equal (specs/ of rf233: Config, Data, Kernel, Listeners), so that the claim
+-- speaks of the code.
 use Prim.Native.Nat.{ℕ, zero, suc, _+_, _<_}
 use mathlib.Core.Path.{_≡_}
 use mathlib.Core.Bool.{Bool, false, cond}

@@ -119,7 +119,7 @@ law {p} {q} c =
           (kind-at (λ k. all λ t. all λ r. all λ s. all λ h. e k n t r s h) (below-at (tested p q) 69 c n l) k) t) r) s) h) o);
     }
 
--- the value of a flag after the settings, v before them; only the CRC's own flag is set from a byte
+-- the value of a flag after the assignments, v before them; only the CRC's own flag is set from a byte
 abbrev pub final : Flag → List Assignment → Bool → Bool
 final x [] v = v
 final x (put g w ∷ more) v = final x more (cond (eqb (flagNo g) (flagNo x)) w v)

@@ -37,7 +37,7 @@ failed result = eqb (tracBits result) tracChannelAccessFailure
 abbrev pub sendDone : Slot → ℕ → Action
 sendDone x result = Sent (bufferIn x) (acknowledged result) (failed result)
 
--- 38: the radio is on its way to sending
+-- 38: the radio is on its way to transmitting
 abbrev sends : Access → InternalState → Tree
 sends x n = leaf (does (put transmitting true ∷ []) x (to n) [])
 
