@@ -55,10 +55,10 @@ called-wrapped other k = twice k
 pub noted-wrapped : (a : Action) (k : Page) → wrapped (noted a (wrapped k)) ≡ wrapped (noted a k)
 noted-wrapped action.Nothing k = twice k
 noted-wrapped (action.Power v) k = twice k
-noted-wrapped (action.Sent b a f) k = given-wrapped b 2 1 0 k
-noted-wrapped (action.Received b l v) k = given-wrapped b 3 1 0 k
+noted-wrapped (action.Sent b a f) k = given-wrapped b 2 _ _ k
+noted-wrapped (action.Received b l v) k = given-wrapped b 3 _ _ k
 noted-wrapped action.ConfigDone k = twice k
-noted-wrapped (action.Dropped b) k = given-wrapped b 2 0 1 k
+noted-wrapped (action.Dropped b) k = given-wrapped b 2 _ _ k
 noted-wrapped action.IrqMakeInput k = twice k
 noted-wrapped action.IrqClear k = twice k
 noted-wrapped action.IrqSetFloatingState k = twice k

@@ -1,21 +1,36 @@
 -- Each call of demand 3 keeps the invariant of Custody.antt, refused or not. Assumes nothing.
 use mathlib.Core.Path.{_≡_, refl, sym, ap, subst}
-use mathlib.Core.Bool.{Bool, true, false, not, _&&_, _||_}
+use mathlib.Core.Bool.{Bool, true, false, not, _||_}
 use mathlib.Core.List.{List, []}
 use Prim.Native.Nat.{ℕ, _+_}
 use native.Mathlib.Omega.{arith}
 use lib.Dec.{T, eqb, leb, ltb}
 use lib.IntN.{ℤ}
-use borrow.Author.Tests.{le-leb, ltb-false, leb-false, not-true}
+use borrow.Author.Tests.{le-leb, ltb-false, leb-false, not-false}
 use Rattle.rf233.specs.Action.{actions}
 use Rattle.rf233.specs.Answer.{answerNo, answerOf, refused}
+use Rattle.rf233.specs.Completion.{completed}
+use Rattle.rf233.specs.Config.{beginStart, startCall, beginStop, stopCall, beginCommit, commitCall, resetCall, setPower, setChannel}
+use Rattle.rf233.specs.Data.{handleBad, txBusy, beginTransmit, transmitCall, receiveBufferCall}
+use Rattle.rf233.specs.Described.{txLengthBad}
+use Rattle.rf233.specs.Driver.{flag, flagged, withState, withBuffers, withTx, withRx, withTxLen}
+use Rattle.rf233.specs.Driver.Flag.{radioOn, transmitting, configPending, sleepPending, wakePending, receiving}
+use Rattle.rf233.specs.Guard.{Called}
+use Rattle.rf233.specs.Interrupt.{handleInterrupt}
+use Rattle.rf233.specs.Kernel.{firedCall, completing, completionCall}
+use Rattle.rf233.specs.Record as rec
+use Rattle.rf233.specs.Record.{isHeld, recordHas}
+use Rattle.rf233.specs.State.{stateNo}
 use Rattle.rf233.specs.Step.{quiet}
+use Rattle.rf233.specs.Transfer.{toComplete}
+use Rattle.rf233.specs.declared.answer.Outcome.{Outcome}
+use Rattle.rf233.specs.declared.driver.Driver.{Driver}
+use Rattle.rf233.specs.declared.driver.Slot.the-variants.{Held}
+use Rattle.rf233.specs.declared.driver.Under.{Under}
+use Rattle.rf233.specs.declared.driver.Under.the-variants.{Idle, Register, FrameRead, FrameWrite}
+use Rattle.rf233.specs.declared.state.InternalState.the-variants.{«SLEEP_WAKE», «SLEEP_TRX_OFF», «CONFIG_SHORT0_SET», «TX_STATUS_PRECHECK1»}
 use Rattle.custody.specs.Book.{Page, Fed, called, entered}
 use Rattle.custody.specs.Book.Fed.{completes, other, lendsTransmit, lendsReceive}
-use Rattle.rf233.specs.Guard.{Called}
-use Rattle.rf233.specs.Data.{lent, handleBad, txBusy, beginTransmit, transmitCall, receiveBufferCall}
-use Rattle.rf233.specs.Config.{beginStart, startCall, beginStop, stopCall, beginCommit, commitCall, resetCall, setPower, setChannel}
-use Rattle.rf233.specs.Kernel.{firedCall, completing, completionCall}
 use Rattle.custody.specs.Claim.{Call, fed, yields}
 use Rattle.custody.specs.Claim.Call.{
   start,
@@ -34,72 +49,30 @@ use Rattle.custody.specs.Claim.Call.{
   power,
   listener,
 }
-use Rattle.rf233.specs.Record.{isHeld, recordHas}
-use Rattle.rf233.specs.Completion.{completed}
-use Rattle.rf233.specs.Interrupt.{handleInterrupt}
-use Rattle.rf233.specs.Driver.{flag, flagged, withState, withBuffers}
-use Rattle.rf233.specs.Driver.Flag.{radioOn, transmitting, interruptHandling, configPending, sleepPending, wakePending, receiving}
-use Rattle.rf233.specs.Record as rec
-use Rattle.rf233.specs.Described.{txLengthBad}
-use Rattle.rf233.specs.State.{stateNo}
-use Rattle.rf233.specs.Transfer.{isIdle}
-use Rattle.rf233.specs.declared.answer.Answer.{Answer}
-use Rattle.rf233.specs.declared.answer.Outcome.{Outcome}
-use Rattle.rf233.specs.declared.driver.Driver.{Driver}
-use Rattle.rf233.specs.declared.driver.Slot.{Slot}
-use Rattle.rf233.specs.declared.driver.Slot.the-variants.{Empty, Held}
-use Rattle.rf233.specs.declared.driver.Under.{Under}
-use Rattle.rf233.specs.declared.driver.Under.the-variants.{Idle, Register, FrameRead, FrameWrite}
-use Rattle.rf233.specs.declared.state.InternalState.the-variants.{«SLEEP_WAKE», «SLEEP_TRX_OFF», «CONFIG_SHORT0_SET», «TX_STATUS_PRECHECK1»}
-use Rattle.laws.proofs.Logic.{right, pair, is-false, both-left, both-right, nor-left, nor-right}
-use Rattle.rf233.proofs.ChoiceLaws.{branch, either}
+use Rattle.laws.proofs.Logic.{right, pair, is-false, nor-left, nor-right}
 use Rattle.rf233.proofs.Accepted.{IsDone, done-handle, done-completed}
+use Rattle.rf233.proofs.ChoiceLaws.{branch, either}
+use Rattle.rf233.proofs.Facts.{kind, frameOf, of}
+use Rattle.rf233.proofs.Fit.{fit, join-same, join-32, join-30, join-45, join-33, unsent, tx-fits, rx-fits}
+use Rattle.custody.proofs.BookLaws.{empty-is}
 use Rattle.custody.proofs.Custody.{Inv, After, Lengths}
-use Rattle.rf233.proofs.Fit.{kind, fit, frameOf, join-same, join-32, join-30, join-45, join-33, unsent, tx-fits, rx-fits}
-use Rattle.custody.specs.Ranges.{transferFits, actionsFit, replyFits}
-use Rattle.custody.proofs.Match.{refuses, lends-tx, lends-rx}
 use Rattle.custody.proofs.Events.{completed-keeps, others, asks-any, fires-any}
+use Rattle.custody.proofs.Match.{refuses, lends-tx, lends-rx}
 
--- the invariant once a call is entered into the book, and the ranges of its reply
-pub record Entered (f : Fed) (k : Page) (o : Outcome) : Type 0 where
-  pub inv : Inv (entered f (o .reply) k) (o .driver)
-  pub fits : T (replyFits (o .reply))
+-- the invariant once a call is entered into the book
+abbrev pub Entered : Fed → Page → Outcome → Type 0
+Entered f k o = Inv (entered f (o .reply) k) (o .driver)
 
 -- a step that is done
 took : (f : Fed) (k : Page) (o : Outcome) → IsDone o → After (called f k) o → Entered f k o
 unfolding entered
-took f k o e w =
-    record {
-      inv = rw e (w .inv);
-      fits = rw e (pair (transferFits (o .reply .transfer)) (actionsFit (o .reply .actions .items)) (w .spans) (w .shows));
-    }
-
--- an answer that refuses a call of a client
-abbrev refusal : Answer → Bool
-refusal x = not (eqb (answerNo x) 0) && leb (answerNo x) 14
+took f k o e w = rw e w
 
 -- the refusal of a number, from a driver that differs from d in flags at most
-turned : (f : Fed) (k : Page) (n : ℕ) (d : Driver) → refusal (answerOf n) ≡ true → Inv k d → Entered f k (refused n d)
+turned : (f : Fed) (k : Page) (n : ℕ) (d : Driver) → eqb (answerNo (answerOf n)) 0 ≡ false → Inv k d → Entered f k (refused n d)
 unfolding entered
 turned f k n d e v =
-    let x = answerOf n in
-    let none = not-true (eqb (answerNo x) 0) (both-left (not (eqb (answerNo x) 0)) _ e) in
-    record {
-      inv =
-          rw none (record {
-            match = refuses (d .buffers) k (v .match) (refused n d .reply) refl refl;
-            fitted = v .fitted;
-            lengths = v .lengths;
-          });
-      fits = rw (both-right (not (eqb (answerNo x) 0)) (leb (answerNo x) 14) e) tt;
-    }
-
--- a step that starts nothing and hands nothing back
-stays : (k : Page) (d e : Driver) → Inv k d → e .buffers ≡ d .buffers
-    → T (fit (kind (d .buffers .under)) (stateNo (e .state)) (isHeld (d .buffers .«tx_buf»)) (isHeld (d .buffers .«rx_buf»))
-    (flag transmitting (e .flags)) (flag interruptHandling (e .flags)))
-    → After k (quiet e (actions []))
-stays k d e v q o = record { inv = others k d e v q o; spans = tt; shows = tt }
+    rw e (record { match = refuses (d .buffers) k (v .match) (refused n d .reply) refl refl; fitted = v .fitted; lengths = v .lengths })
 
 -- the place that a frame transfer's buffer came from
 sent-is : (u : Under) → isHeld (rec.txUnderWay u) ≡ eqb (frameOf (kind u)) 2
@@ -114,10 +87,6 @@ received-is Register = refl
 received-is (FrameRead c l) = refl
 received-is (FrameWrite c l) = refl
 
-no-slot : (s : Slot) → isHeld s ≡ false → s ≡ Empty
-no-slot Empty e = refl
-no-slot (Held c l) e = absurd (subst T e tt)
-
 module _ (k : Page) (d : Driver) (v : Inv k d) where
   abbrev Yields : Fed → Called → Type 0
   Yields f c = Entered f k (c .outcome)
@@ -131,8 +100,8 @@ module _ (k : Page) (d : Driver) (v : Inv k d) where
   started-keeps =
       let e = flagged sleepPending false d in
       branch (After k) _ _ _
-      (λ y. asks-any k d v (withState «SLEEP_WAKE» e) refl 1 _ _ refl refl (join-32 .gives _ _ _ _ _ _ (v .fitted) y))
-      (λ y. asks-any k d v (flagged wakePending true e) refl 1 _ _ refl refl (join-same .gives _ _ _ _ _ _ (v .fitted) tt))
+      (λ y. asks-any k d v (withState «SLEEP_WAKE» e) refl 1 _ _ refl refl (join-32 .gives (of d) (v .fitted) tt y))
+      (λ y. asks-any k d v (flagged wakePending true e) refl 1 _ _ refl refl (join-same .gives (of d) (v .fitted) tt tt))
 
   start-keeps : (p : List ℕ) → Yields other (startCall d p)
   unfolding startCall
@@ -141,7 +110,7 @@ module _ (k : Page) (d : Driver) (v : Inv k d) where
       branch (Yields other) _ _ _ (λ y. turned other k 12 d refl v)
       (λ y. branch (Yields other) _ _ _
       (λ z. took other k (beginStart e) (done-started e) started-keeps)
-      (λ z. turned other k 6 e refl (others k d e v refl (v .fitted))))
+      (λ z. turned other k 6 e refl (others k d v e refl (v .fitted))))
 
   done-stopped : IsDone (beginStop d)
   unfolding beginStop
@@ -152,8 +121,8 @@ module _ (k : Page) (d : Driver) (v : Inv k d) where
   stopped-keeps =
       branch (After k) _ _ _
       (λ y. asks-any k d v (withState «SLEEP_TRX_OFF» (flagged radioOn false d)) refl 2 _ _ refl refl
-      (join-30 .gives _ _ _ _ _ _ (v .fitted) y))
-      (λ y. stays k d (flagged sleepPending true d) v refl (v .fitted))
+      (join-30 .gives (of d) (v .fitted) tt y))
+      (λ y. others k d v (flagged sleepPending true d) refl (v .fitted))
 
   stop-keeps : (p : List ℕ) → Yields other (stopCall d p)
   unfolding stopCall
@@ -170,10 +139,10 @@ module _ (k : Page) (d : Driver) (v : Inv k d) where
   unfolding beginCommit
   committing-keeps =
       let e = flagged configPending true d in
-      branch (After k) _ _ _ (λ y. stays k d d v refl (v .fitted))
+      branch (After k) _ _ _ (λ y. v)
       (λ y. branch (After k) _ _ _
-      (λ z. asks-any k d v (withState «CONFIG_SHORT0_SET» e) refl 2 _ _ refl refl (join-45 .gives _ _ _ _ _ _ (v .fitted) z))
-      (λ z. stays k d e v refl (v .fitted)))
+      (λ z. asks-any k d v (withState «CONFIG_SHORT0_SET» e) refl 2 _ _ refl refl (join-45 .gives (of d) (v .fitted) tt z))
+      (λ z. others k d v e refl (v .fitted)))
 
   commit-keeps : (p : List ℕ) → Yields other (commitCall d p)
   unfolding commitCall
@@ -192,40 +161,33 @@ module _ (k : Page) (d : Driver) (v : Inv k d) where
       branch (Yields completes) _ _ _ (λ y. turned completes k 12 d refl v)
       (λ y. branch (Yields completes) _ _ _ (λ z. turned completes k 11 d refl v)
       (λ z. branch (Yields completes) _ _ _ (λ w. turned completes k 13 d refl v)
-      (λ w. took completes k (completed _ d) (done-completed _ d) (completed-keeps k _ d v (is-false (isIdle (d .buffers .under)) z)))))
+      (λ w. took completes k (completed _ d) (done-completed _ d) (completed-keeps k _ d v (not-false (toComplete (d .buffers)) (is-false (not (toComplete (d .buffers))) z))))))
 
   reset-keeps : (b : Bool) → Entered other k (resetCall d b)
   unfolding resetCall
   reset-keeps b =
       branch (Entered other k) _ _ _
-      (λ y. took other k _ refl (record
-      { inv = others k d (flagged transmitting false d) v refl (unsent .gives _ _ _ _ _ _ (v .fitted) tt); spans = tt; shows = tt }))
+      (λ y. took other k _ refl (others k d v (flagged transmitting false d) refl (unsent .gives (of d) (v .fitted) tt tt)))
       (λ y. turned other k 14 d refl v)
 
-  setting-keeps : (e : Driver) → e .buffers ≡ d .buffers → e .state ≡ d .state → e .flags ≡ d .flags
-      → Entered other k (quiet e (actions []))
-  setting-keeps e q s f =
-      took other k (quiet e (actions [])) refl
-      (stays k d e v q (subst (λ x. T
-      (fit (kind (d .buffers .under)) (stateNo x) (isHeld (d .buffers .«tx_buf»)) (isHeld (d .buffers .«rx_buf»))
-      (flag transmitting (e .flags)) (flag interruptHandling (e .flags)))) (sym s)
-      (subst (λ x. T (fit (kind (d .buffers .under)) (stateNo (d .state)) (isHeld (d .buffers .«tx_buf»)) (isHeld (d .buffers .«rx_buf»))
-      (flag transmitting x) (flag interruptHandling x))) (sym f) (v .fitted))))
+  setting-keeps : (e : Driver) → e .buffers ≡ d .buffers → of e ≡ of d → Entered other k (quiet e (actions []))
+  setting-keeps e q f =
+      took other k (quiet e (actions [])) refl (others k d v e q (subst (λ c. T (fit c)) (sym f) (v .fitted)))
 
   power-keeps : (t : ℤ) → Entered other k (setPower d t)
   unfolding setPower
-  power-keeps t = branch (Entered other k) _ _ _ (λ y. setting-keeps _ refl refl refl) (λ y. turned other k 5 d refl v)
+  power-keeps t = branch (Entered other k) _ _ _ (λ y. setting-keeps _ refl refl) (λ y. turned other k 5 d refl v)
 
   channel-keeps : (c : ℕ) → Entered other k (setChannel d c)
   unfolding setChannel
-  channel-keeps c = branch (Entered other k) _ _ _ (λ y. setting-keeps _ refl refl refl) (λ y. turned other k 5 d refl v)
+  channel-keeps c = branch (Entered other k) _ _ _ (λ y. setting-keeps _ refl refl) (λ y. turned other k 5 d refl v)
 
   -- ---- lending
 
   -- the lengths with a transmit buffer taken in: none was there, and 3, 4 and 7 did not refuse it
   lengths-sent : (b l n : ℕ) → T (not (ltb 160 l)) → T (not (leb l (n + 4))) → T (not (ltb 125 n))
       → isHeld (rec.txUnderWay (d .buffers .under)) ≡ false
-      → Lengths (lent (Held b l) (d .buffers .«rx_buf») (n + 2) (d .buffers))
+      → Lengths (withTxLen (n + 2) (withTx (Held b l) (d .buffers)))
   lengths-sent b l n h s m e =
       let g = v .lengths in
       let most = ltb-false 160 l (is-false (ltb 160 l) h) in
@@ -241,13 +203,13 @@ module _ (k : Page) (d : Driver) (v : Inv k d) where
               le-leb (n + 2 + 3) l (omega arith),
               le-leb l 160 (omega arith),
             );
-        tx-under = ap (λ x. txLengthBad x (n + 2)) (no-slot (rec.txUnderWay (d .buffers .under)) e);
+        tx-under = ap (λ x. txLengthBad x (n + 2)) (empty-is (rec.txUnderWay (d .buffers .under)) e);
         rx = g .rx;
         rx-under = g .rx-under;
       }
 
   lengths-received : (b l : ℕ) → T (not (ltb 160 l)) → T (not (ltb l 129))
-      → Lengths (lent (d .buffers .«tx_buf») (Held b l) (d .buffers .«tx_len») (d .buffers))
+      → Lengths (withRx (Held b l) (d .buffers))
   lengths-received b l h s =
       let g = v .lengths in
       let most = ltb-false 160 l (is-false (ltb 160 l) h) in
@@ -273,7 +235,7 @@ module _ (k : Page) (d : Driver) (v : Inv k d) where
   transmitting-keeps b l n h y s m r =
       let t = isHeld (d .buffers .«tx_buf») in
       let u = d .buffers .under in
-      let e = flagged transmitting true (withBuffers (lent (Held b l) (d .buffers .«rx_buf») (n + 2) (d .buffers)) d) in
+      let e = flagged transmitting true (withBuffers (withTxLen (n + 2) (withTx (Held b l) (d .buffers))) d) in
       let none = is-false t (nor-left t _ y) in
       let sends = nor-left (isHeld (rec.txUnderWay u)) (flag transmitting (d .flags)) (nor-right t _ y) in
       let free : T (not (t || (eqb (frameOf (kind u)) 2 || flag transmitting (d .flags)))) = subst
@@ -281,16 +243,18 @@ module _ (k : Page) (d : Driver) (v : Inv k d) where
       let low = ltb-false 15 b (is-false (ltb 15 b) (nor-left (ltb 15 b) (ltb 160 l) h)) in
       let w : Inv (called (lendsTransmit b) k) e =
       record {
-        match = lends-tx (d .buffers) k (v .match) b l (n + 2) (omega arith) none (is-false (recordHas (d .buffers) b) r);
-        fitted = tx-fits .gives _ _ _ _ _ _ (v .fitted) free;
+        match =
+            lends-tx (d .buffers) k (v .match) b l (n + 2) (omega arith) none (is-false (isHeld (rec.txUnderWay u)) sends)
+            (is-false (recordHas (d .buffers) b) r);
+        fitted = tx-fits .gives (of d) (v .fitted) tt free;
         lengths = lengths-sent b l n (nor-right (ltb 15 b) (ltb 160 l) h) s m (is-false (isHeld (rec.txUnderWay u)) sends);
       } in
       branch (After (called (lendsTransmit b) k)) _ _ _
       (λ z. asks-any _ e w (withState «TX_STATUS_PRECHECK1» e) refl 1 _ _ refl refl
-      (join-33 .gives _ _ _ _ _ _ (v .fitted)
+      (join-33 .gives (of d) (v .fitted) tt
       (pair (not (t || (eqb (frameOf (kind u)) 2 || flag transmitting (d .flags)))) (eqb (stateNo (d .state)) 29) free
       (right (not (flag receiving (d .flags))) (eqb (stateNo (d .state)) 29) z))))
-      (λ z. record { inv = w; spans = tt; shows = tt })
+      (λ z. w)
 
   transmit-keeps : (b l n : ℕ) (p : List ℕ) → Yields (lendsTransmit b) (transmitCall d b l n p)
   unfolding transmitCall
@@ -317,15 +281,11 @@ module _ (k : Page) (d : Driver) (v : Inv k d) where
       (λ y. branch (Entered f k) _ _ _ (λ z. turned f k 8 d refl v)
       (λ r. let low = ltb-false 15 b (is-false (ltb 15 b) (nor-left (ltb 15 b) (ltb 160 l) h)) in
       took f k _ refl (record {
-        inv = record {
-          match =
-              lends-rx (d .buffers) k (v .match) b l (d .buffers .«tx_len») (omega arith) (is-false t (nor-left t _ y))
-              (is-false (recordHas (d .buffers) b) r);
-          fitted = rx-fits .gives _ _ _ _ _ _ (v .fitted) (subst (λ x. T (not (t || x))) (received-is u) y);
-          lengths = lengths-received b l (nor-right (ltb 15 b) (ltb 160 l) h) s;
-        };
-        spans = tt;
-        shows = tt;
+        match =
+            lends-rx (d .buffers) k (v .match) b l (omega arith) (is-false t (nor-left t _ y))
+            (is-false (isHeld (rec.rxUnderWay u)) (nor-right t _ y)) (is-false (recordHas (d .buffers) b) r);
+        fitted = rx-fits .gives (of d) (v .fitted) tt (subst (λ x. T (not (t || x))) (received-is u) y);
+        lengths = lengths-received b l (nor-right (ltb 15 b) (ltb 160 l) h) s;
       })))))
 
   -- every call
@@ -335,14 +295,14 @@ module _ (k : Page) (d : Driver) (v : Inv k d) where
   keeps stop p = stop-keeps p
   keeps commit p = commit-keeps p
   keeps fire p = fire-keeps p
-  keeps query p = setting-keeps d refl refl refl
+  keeps query p = setting-keeps d refl refl
   keeps (complete xs) p = completion-keeps xs p
   keeps (transmit b l n) p = transmit-keeps b l n p
   keeps (receiveBuffer b l) p = receive-keeps b l
   keeps (reset b) p = reset-keeps b
-  keeps (address a) p = setting-keeps _ refl refl refl
-  keeps (pan a) p = setting-keeps _ refl refl refl
+  keeps (address a) p = setting-keeps _ refl refl
+  keeps (pan a) p = setting-keeps _ refl refl
   keeps (channel c) p = channel-keeps c
-  keeps (addressLong l) p = setting-keeps _ refl refl refl
+  keeps (addressLong l) p = setting-keeps _ refl refl
   keeps (power t) p = power-keeps t
-  keeps (listener x b) p = setting-keeps _ refl refl refl
+  keeps (listener x b) p = setting-keeps _ refl refl

@@ -16,8 +16,6 @@ use Rattle.rf233.specs.Place.{clientPlace, firstPlace, placeOf}
 use Rattle.rf233.specs.Choice.{within}
 use Rattle.rf233.specs.Guard.{poolFault}
 use Rattle.rf233.specs.declared.answer.Outcome.{Outcome}
-use Rattle.custody.specs.Ranges.{InRange}
-use Rattle.rf233.specs.State.{stateNo}
 use Rattle.rf233.specs.declared.driver.Driver.{Driver}
 use Rattle.custody.proofs.Custody.{Inv}
 use Rattle.custody.proofs.Calls.{keeps}
@@ -26,7 +24,7 @@ use Rattle.rf233.proofs.Conditions.{by-flag}
 use Rattle.rf233.proofs.Fit.{fit}
 use Rattle.laws.proofs.Logic.{left, is-true, both-left}
 use Rattle.rf233.proofs.ChoiceLaws.{branch}
-use Rattle.custody.proofs.Match.{match-new, counted-in-record}
+use Rattle.custody.proofs.Match.{match-new, fitted, counted-in-record}
 
 -- the invariant of a world
 abbrev Holds : World → Type 0
@@ -61,7 +59,7 @@ newly l c =
 -- every call keeps it, and so does a list of calls
 next-holds : (w : World) (e : Event) → Holds w → Holds (next w e)
 unfolding next
-next-holds w e v = keeps (w .book) (w .driver) v (e .call) (e .pool) .inv
+next-holds w e v = keeps (w .book) (w .driver) v (e .call) (e .pool)
 
 run-holds : (w : World) (es : List Event) → Holds w → Holds (run w es)
 unfolding run
@@ -74,10 +72,10 @@ kept w v =
     let m = v .match in
     record {
       faultless = m .faultless;
-      placed = m .placed;
-      kind = m .kind-is;
-      write = m .write-is;
-      read = m .read-is;
+      placed = λ b h. fitted (w .driver .buffers) (w .book) m b h .0;
+      kind = m .going .kind;
+      write = m .going .write;
+      read = m .going .read;
       counted = counted-in-record (w .driver .buffers) (w .book) m;
     }
 
@@ -100,20 +98,3 @@ pub twelve-is-the-pool : (l c : ℕ) (es : List Event) (p : List ℕ) → poolFa
 twelve-is-the-pool l c es p =
     rw (sound (run (newWorld l c) es .book) (run (newWorld l c) es .driver) (run-holds (newWorld l c) es (newly l c)))
     (or-false (not (eqb (length p) 3040)))
-
--- what a driver that meets the invariant is in: one of the 69 states
-state-below : (k : Page) (d : Driver) → Inv k d → T (ltb (stateNo (d .state)) 69)
-unfolding fit
-state-below k d v = left (ltb (stateNo (d .state)) 69) _ (v .fitted)
-
--- whatever a call yields is within the ranges of document 01's records
-pub in-range : InRange
-in-range l c es x p =
-    let w = run (newWorld l c) es in
-    let v = run-holds (newWorld l c) es (newly l c) in
-    let o = keeps (w .book) (w .driver) v x p in
-    record {
-      from = state-below (w .book) (w .driver) v;
-      to = state-below _ _ (o .inv);
-      reply = o .fits;
-    }

@@ -1,166 +1,126 @@
 -- A firing and a completion keep the invariant of Custody.antt, whatever is under way, and so does a register transfer that is asked for.
 -- Assumes nothing.
 use mathlib.Core.Path.{_≡_, refl, sym, ap, subst, _∙_}
-use mathlib.Core.Bool.{Bool, true, false}
+use mathlib.Core.Bool.{Bool, true, false, not}
 use mathlib.Core.List.{[]}
 use Prim.Native.Nat.{ℕ}
 use lib.Dec.{T, eqb}
+use borrow.Author.Tests.{not-false}
 use Rattle.rf233.specs.Action.{actions}
-use Rattle.rf233.specs.Step.{stepOf}
-use Rattle.custody.specs.Book.{Page, ended}
 use Rattle.rf233.specs.Choice.{pick}
-use Rattle.custody.specs.Claim.{kindOf}
-use Rattle.rf233.specs.Record.{isHeld}
 use Rattle.rf233.specs.Completion.{buffersBack, transferOver, completed}
-use Rattle.rf233.specs.Interrupt.{handleInterrupt}
-use Rattle.rf233.specs.Driver.{flag}
-use Rattle.rf233.specs.Driver.Flag.{transmitting, interruptHandling}
-use Rattle.rf233.specs.Record as rec
 use Rattle.rf233.specs.Described.{txLengthBad, rxLengthBad}
-use Rattle.rf233.specs.State.{stateNo}
-use Rattle.rf233.specs.Transfer.{isIdle}
+use Rattle.rf233.specs.Interrupt.{handleInterrupt}
+use Rattle.rf233.specs.Record.{txUnderWay, rxUnderWay}
 use Rattle.rf233.specs.Starter.{registerTransfer}
+use Rattle.rf233.specs.Step.{stepOf, quiet}
+use Rattle.rf233.specs.Transfer.{underWay, freeToStart, toComplete}
 use Rattle.rf233.specs.declared.arrived.Arrived.{Arrived}
 use Rattle.rf233.specs.declared.driver.Buffers.{Buffers}
 use Rattle.rf233.specs.declared.driver.Driver.{Driver}
 use Rattle.rf233.specs.declared.driver.Under.{Under}
 use Rattle.rf233.specs.declared.driver.Under.the-variants.{Idle, Register, FrameRead, FrameWrite}
-use Rattle.rf233.proofs.ChoiceLaws.{branch}
-use Rattle.custody.proofs.Custody.{Inv, After, Lengths, register-refrains, under-idle}
-use Rattle.custody.proofs.Phases.{asks, rest-handles, ready-keeps, result-keeps}
-use Rattle.rf233.proofs.Fit.{kind, fit, joins, doneNo, done-no, return-fits}
-use Rattle.rf233.proofs.Fit.Kind.{access, reading, writing}
-use Rattle.custody.proofs.Match.{Match, ends}
+use Rattle.custody.specs.Book.{Page, ended}
+use Rattle.custody.specs.Claim.{kindOf}
+use Rattle.rf233.proofs.Conditions.{by-flag}
+use Rattle.rf233.proofs.EveryStep.{completion-by}
+use Rattle.rf233.proofs.Facts.{kind, isNone, of, under, over-is}
+use Rattle.rf233.proofs.Facts.Kind.{access}
+use Rattle.rf233.proofs.Fit.{fit, joins, return-fits}
+use Rattle.rf233.proofs.OwnBuffers.{register-refrains}
+use Rattle.custody.proofs.BookLaws.{idle-is}
+use Rattle.custody.proofs.Custody.{Inv, After, Lengths}
+use Rattle.custody.proofs.Match as match
+use Rattle.custody.proofs.Match.{Match}
+use Rattle.custody.proofs.Phases.{Rest, rested, asks, fires, ends, kept}
 use Rattle.custody.proofs.Undescribed.{besides-none}
-
--- ---- a firing during a transfer is remembered
-busy-handles : (k : Page) (d : Driver) → Inv k d → isIdle (d .buffers .under) ≡ false → After k (handleInterrupt d)
-unfolding handleInterrupt pick
-busy-handles k d v i = rw i (record { inv = record { match = v .match; fitted = v .fitted; lengths = v .lengths }; spans = tt; shows = tt })
 
 -- ---- a completion
 
-lengths-back : (b : Buffers) → Lengths b → Lengths (buffersBack (b .under) b)
-lengths-back b g = go (b .under) refl
-  where
-    go : (u : Under) → b .under ≡ u → Lengths (buffersBack u b)
-    go Idle e = g
-    go Register e = record { whole = g .whole; present = g .present; tx = g .tx; tx-under = refl; rx = g .rx; rx-under = refl }
-    go (FrameRead c l) e =
-        record {
-          whole = g .whole;
-          present = g .present;
-          tx = g .tx;
-          tx-under = refl;
-          rx = ap (λ x. rxLengthBad (rec.rxUnderWay x)) (sym e)
-              ∙ g .rx-under;
-          rx-under = refl;
-        }
-    go (FrameWrite c l) e =
-        record {
-          whole = g .whole;
-          present = g .present;
-          tx = ap (λ x. txLengthBad (rec.txUnderWay x) (b .«tx_len»)) (sym e) ∙ g .tx-under;
-          tx-under = refl;
-          rx = g .rx;
-          rx-under = refl;
-        }
-
--- what is under way once the buffers are back: nothing, and each place is as full as `return-fits` has it
-back-fits : (b : Buffers) (n : ℕ) (s h : Bool) → isIdle (b .under) ≡ false
-    → T (fit (kind (b .under)) n (isHeld (b .«tx_buf»)) (isHeld (b .«rx_buf»)) s h)
-    → T (fit (kind (buffersBack (b .under) b .under)) (doneNo h n) (isHeld (buffersBack (b .under) b .«tx_buf»))
-    (isHeld (buffersBack (b .under) b .«rx_buf»)) s false)
-back-fits b n s h i o = go (b .under) i o
-  where
-    go : (u : Under) → isIdle u ≡ false → T (fit (kind u) n (isHeld (b .«tx_buf»)) (isHeld (b .«rx_buf»)) s h)
-        → T (fit (kind (buffersBack u b .under)) (doneNo h n) (isHeld (buffersBack u b .«tx_buf»)) (isHeld (buffersBack u b .«rx_buf»)) s
-        false)
-    go Idle i o = absurd (subst T i tt)
-    go Register i o = return-fits .gives access _ _ _ _ _ o tt
-    go (FrameRead c l) i o = return-fits .gives reading _ _ _ _ _ o tt
-    go (FrameWrite c l) i o = return-fits .gives writing _ _ _ _ _ o tt
-
-back-idle : (b : Buffers) → isIdle (b .under) ≡ false → isIdle (buffersBack (b .under) b .under) ≡ true
-back-idle b i = go (b .under) i
-  where
-    go : (u : Under) → isIdle u ≡ false → isIdle (buffersBack u b .under) ≡ true
-    go Idle i = absurd (subst T i tt)
-    go Register i = refl
-    go (FrameRead c l) i = refl
-    go (FrameWrite c l) i = refl
-
-returned-keeps : (k : Page) (d : Driver) → Inv k d → isIdle (d .buffers .under) ≡ false → Inv (ended k) (transferOver d)
-returned-keeps k d v i =
+lengths-back : (u : Under) (b : Buffers) → b .under ≡ u → Lengths b → Lengths (buffersBack u b)
+lengths-back Idle b e g = g
+lengths-back Register b e g =
+    record { whole = g .whole; present = g .present; tx = g .tx; tx-under = refl; rx = g .rx; rx-under = refl }
+lengths-back (FrameRead c l) b e g =
     record {
-      match = ends (d .buffers) k (v .match) i (besides-none (d .buffers) _ _ _ (v .fitted));
-      fitted =
-          subst (λ n. T (fit (kind (buffersBack (d .buffers .under) (d .buffers) .under)) n
-          (isHeld (buffersBack (d .buffers .under) (d .buffers) .«tx_buf»))
-          (isHeld (buffersBack (d .buffers .under) (d .buffers) .«rx_buf»)) (flag transmitting (d .flags)) false))
-          (sym (done-no (flag interruptHandling (d .flags)) (d .state))) (back-fits (d .buffers) _ _ _ i (v .fitted));
-      lengths = lengths-back (d .buffers) (v .lengths);
+      whole = g .whole;
+      present = g .present;
+      tx = g .tx;
+      tx-under = refl;
+      rx = ap (λ x. rxLengthBad (rxUnderWay x)) (sym e) ∙ g .rx-under;
+      rx-under = refl;
+    }
+lengths-back (FrameWrite c l) b e g =
+    record {
+      whole = g .whole;
+      present = g .present;
+      tx = ap (λ x. txLengthBad (txUnderWay x) (b .«tx_len»)) (sym e) ∙ g .tx-under;
+      tx-under = refl;
+      rx = g .rx;
+      rx-under = refl;
     }
 
-pub completed-keeps : (k : Page) (a : Arrived) (d : Driver) → Inv k d → isIdle (d .buffers .under) ≡ false → After (ended k) (completed a d)
-unfolding completed
+-- a transfer to complete is one under way, and with its buffers back none is
+busy-now : (u : Under) → underWay u ≡ true → T (not (isNone (kind u)))
+busy-now Idle i = absurd (subst T (sym i) tt)
+busy-now Register i = tt
+busy-now (FrameRead c l) i = tt
+busy-now (FrameWrite c l) i = tt
+
+back-free : (u : Under) (b : Buffers) → underWay u ≡ true → freeToStart (buffersBack u b) ≡ true
+back-free Idle b i = absurd (subst T (sym i) tt)
+back-free Register b i = refl
+back-free (FrameRead c l) b i = refl
+back-free (FrameWrite c l) b i = refl
+
+returned-keeps : (k : Page) (d : Driver) → Inv k d → toComplete (d .buffers) ≡ true → Rest (ended k) (transferOver d)
+returned-keeps k d v i =
+    let u = d .buffers .under in
+    record {
+      inv = record {
+        match = match.ends (d .buffers) k (v .match) i (besides-none d (v .fitted));
+        fitted = subst (λ c. T (fit c)) (sym (over-is d)) (return-fits .gives (of d) (v .fitted) (busy-now u i) tt);
+        lengths = lengths-back u (d .buffers) refl (v .lengths);
+      };
+      free = back-free u (d .buffers) i;
+    }
+
+pub completed-keeps : (k : Page) (a : Arrived) (d : Driver) → Inv k d → toComplete (d .buffers) ≡ true → After (ended k) (completed a d)
 completed-keeps k a d v i =
-    branch (After (ended k)) _ _ _
-    (λ y. result-keeps (ended k) a (transferOver d) (returned-keeps k d v i) (back-idle (d .buffers) i))
-    (λ y. ready-keeps (ended k) a (transferOver d) (returned-keeps k d v i) (back-idle (d .buffers) i))
+    completion-by (After (ended k)) (Rest (ended k)) (kept (ended k)) (ends (ended k)) a d (returned-keeps k d v i)
 
 -- ---- whatever is under way
 
 -- the kind of transfer that a request joins
-joins-busy : (u : Under) → isIdle u ≡ false → joins (kind u) ≡ kind u
-joins-busy Idle i = absurd (subst T i tt)
+joins-busy : (u : Under) → underWay u ≡ true → joins (kind u) ≡ kind u
+joins-busy Idle i = absurd (subst T (sym i) tt)
 joins-busy Register i = refl
 joins-busy (FrameRead c l) i = refl
 joins-busy (FrameWrite c l) i = refl
 
-joins-idle : (u : Under) → isIdle u ≡ true → joins (kind u) ≡ access
-joins-idle u i = ap (λ x. joins (kind x)) (under-idle u i)
+module _ (k : Page) (d : Driver) (v : Inv k d) where
+  -- the invariant of a driver with the same record
+  pub others : (e : Driver) → e .buffers ≡ d .buffers → T (fit (of e)) → Inv k e
+  others e q o =
+      record { match = subst (λ b. Match b k) (sym q) (v .match); fitted = o; lengths = subst Lengths (sym q) (v .lengths) }
 
--- the invariant of a driver that differs in state and flags
-pub others : (k : Page) (d e : Driver) → Inv k d → e .buffers ≡ d .buffers
-    → T (fit (kind (d .buffers .under)) (stateNo (e .state)) (isHeld (d .buffers .«tx_buf»)) (isHeld (d .buffers .«rx_buf»))
-    (flag transmitting (e .flags)) (flag interruptHandling (e .flags)))
-    → Inv k e
-others k d e v q o =
-    record {
-      match = subst (λ b. Match b k) (sym q) (v .match);
-      fitted =
-          subst (λ b. T (fit (kind (b .under)) (stateNo (e .state)) (isHeld (b .«tx_buf»)) (isHeld (b .«rx_buf»))
-          (flag transmitting (e .flags)) (flag interruptHandling (e .flags)))) (sym q) o;
-      lengths = subst Lengths (sym q) (v .lengths);
-    }
+  -- a register transfer is asked for
+  pub asks-any : (e : Driver) → e .buffers ≡ d .buffers → (n x y : ℕ) → kindOf n ≡ 1 → eqb n 0 ≡ false
+      → T (fit (under (joins (kind (d .buffers .under))) (of e)))
+      → After k (stepOf (registerTransfer n x y e) (actions []))
+  asks-any e q n x y z w o =
+      let u = d .buffers .under in
+      by-flag (freeToStart (d .buffers))
+      (λ i. asks k d e (record { inv = v; free = i }) q n x y z w
+      (subst (λ c. T (fit (under c (of e)))) (ap (λ x. joins (kind x)) (idle-is u i)) o))
+      (λ i. subst (λ s. After k (stepOf s (actions []))) (sym (register-refrains e n x y (ap freeToStart q ∙ i)))
+      (others e q (subst (λ c. T (fit c))
+      (ap (λ c. under c (of e)) (joins-busy u (not-false (underWay u) i) ∙ ap (λ b. kind (b .under)) (sym q))) o)))
 
--- a register transfer is asked for
-pub asks-any : (k : Page) (d : Driver) → Inv k d → (e : Driver) → e .buffers ≡ d .buffers → (n x y : ℕ) → kindOf n ≡ 1 → eqb n 0 ≡ false
-    → T (fit (joins (kind (d .buffers .under))) (stateNo (e .state)) (isHeld (d .buffers .«tx_buf»)) (isHeld (d .buffers .«rx_buf»))
-    (flag transmitting (e .flags)) (flag interruptHandling (e .flags)))
-    → After k (stepOf (registerTransfer n x y e) (actions []))
-asks-any k d v e q n x y z w o = go (isIdle (d .buffers .under)) refl
-  where
-    go : (t : Bool) → isIdle (d .buffers .under) ≡ t → After k (stepOf (registerTransfer n x y e) (actions []))
-    go true i =
-        asks k d v i e q n x y z w (subst
-        (λ c. T (fit c (stateNo (e .state)) (isHeld (d .buffers .«tx_buf»)) (isHeld (d .buffers .«rx_buf»)) (flag transmitting (e .flags))
-        (flag interruptHandling (e .flags)))) (joins-idle (d .buffers .under) i) o)
-    go false i =
-        subst (λ st. After k (stepOf st (actions []))) (sym (register-refrains e n x y (ap (λ b. isIdle (b .under)) q ∙ i)))
-        (record {
-          inv = others k d e v q
-              (subst (λ c. T (fit c (stateNo (e .state)) (isHeld (d .buffers .«tx_buf»)) (isHeld (d .buffers .«rx_buf»))
-              (flag transmitting (e .flags)) (flag interruptHandling (e .flags)))) (joins-busy (d .buffers .under) i) o);
-          spans = tt;
-          shows = tt;
-        })
+  -- a firing; during a transfer it is remembered
+  remembers : freeToStart (d .buffers) ≡ false → After k (handleInterrupt d)
+  unfolding handleInterrupt pick
+  remembers i = rw i (others _ refl (v .fitted))
 
--- a firing
-pub fires-any : (k : Page) (d : Driver) → Inv k d → After k (handleInterrupt d)
-fires-any k d v = go (isIdle (d .buffers .under)) refl
-  where
-    go : (t : Bool) → isIdle (d .buffers .under) ≡ t → After k (handleInterrupt d)
-    go true i = rest-handles k (record { status = 0; result = 0; length = 0 }) d v i
-    go false i = busy-handles k d v i
+  pub fires-any : After k (handleInterrupt d)
+  fires-any = by-flag (freeToStart (d .buffers)) (λ i. fires k d (record { inv = v; free = i })) remembers

@@ -1,5 +1,6 @@
 pub mod BookLaws
 pub mod Match
+pub mod Actions
 pub mod Custody
 pub mod Phases
 pub mod Undescribed
@@ -7,3 +8,4 @@ pub mod Events
 pub mod Calls
 pub mod CustodyClaim
 pub mod BookCounts
+pub mod Faults

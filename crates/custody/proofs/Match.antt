@@ -1,407 +1,328 @@
--- The driver's record and the book agree: `Match`, and that each move of a buffer keeps it (a transfer begun, a transfer ended, a buffer
--- handed back, a buffer lent). From this alone: no fault. Assumes nothing.
-use mathlib.Core.Path.{_≡_, refl, sym, ap, _∙_}
+-- The driver's record and the book agree: `Match`, and each move of buffers keeps it: a transfer that begins or ends, a buffer lent or handed
+-- back. From the laws of one and of two buffers; from this alone there is no fault. Assumes nothing.
+use mathlib.Core.Path.{_≡_, refl, sym, _∙_}
 use mathlib.Core.Bool.{Bool, true, false, not, _&&_, _||_, and-true, and-false, or-false}
-use mathlib.Core.List.{[], _∷_}
 use Prim.Native.Nat.{ℕ, zero, suc, _+_, _≤_, _<_}
 use native.Mathlib.Omega.{arith}
-use lib.Dec.{eqb, ltb}
-use lib.ListN.{length, getD, set, length-set, replicate, List·getD-append, getD-replicate}
-use borrow.Author.Tests.{ltb-false, eqb-true, eqb-false, ne-eqb, le-ltb, lt-ltb}
-use Rattle.custody.proofs.BookLaws.{
-  At,
-  at,
-  own-transfer,
-  tx-transfer,
-  rx-transfer,
-  transfer-own,
-  transfer-tx,
-  transfer-rx,
-  tx-client,
-  rx-client,
-  client-tx,
-  client-rx,
-}
-use Rattle.custody.proofs.BookLaws.{
-  put,
-  away,
-  away-set,
-  sized-two,
-  put-two,
-  away-two,
-  plain-kind,
-  register-kind,
-  idle-is,
-  empty-is,
-  none-of,
-  one-some,
-  one-twice,
-  low,
-  same,
-}
-use Rattle.rf233.proofs.Conditions.{by-flag}
-use Rattle.custody.specs.Book.{Page, page, missing, newPage, taken, ended, given, brought, turnedDown}
-use Rattle.rf233.specs.Data.{lent}
+use lib.Dec.{eqb, leb, ltb, eqb→eq, leb→le}
+use lib.ListN.{getD}
+use borrow.Author.Tests.{ltb-false, eqb-false, ne-eqb, le-ltb, lt-ltb}
+use Rattle.laws.proofs.Logic.{left, right, none-left, none-right, or-left-comm, below-at}
+use Rattle.custody.proofs.BookLaws.{countBy, sumBy, fit, of-two, of-three, of-first, sum, Booked, both, More, two-moved, comes, goes}
+use Rattle.custody.proofs.BookLaws.{filled-none, as-kind, idle-is, empty-is, some-one, low, same}
+use Rattle.custody.specs.Book.{Page, newPage, missing, writeFrom, readFrom, room, full, brought, ended, given, namesOwn, taken}
+use Rattle.custody.specs.Book.{acts, turnedDown}
 use Rattle.custody.specs.Claim.{only, heldBelow, kindOf, underKind, underWrite, underRead}
-use Rattle.rf233.specs.Record.{isHeld, one, ownHas, slotHas, underHas, countOf, recordHas}
+use Rattle.rf233.specs.Record.{isHeld, one, slotHas, underHas, countOf, recordHas, txUnderWay, rxUnderWay}
 use Rattle.rf233.specs.Completion.{buffersBack}
 use Rattle.rf233.specs.Case.{withoutTx, withoutRx}
 use Rattle.rf233.specs.Create.{newDriver}
-use Rattle.rf233.specs.Described.{slotAbove, underSlot, twiceBelow, recordedTwice, ownNowhere, clientAbove, heldBesides}
-use Rattle.rf233.specs.Transfer.{isIdle}
-use Rattle.rf233.specs.Driver.{recordWith}
+use Rattle.rf233.specs.Described.{slotAbove, underSlot, twiceBelow, recordedTwice, ownNowhere, heldBesides}
+use Rattle.rf233.specs.Starter.{buffersAway}
+use Rattle.rf233.specs.Transfer.{underWay, freeToStart, toComplete}
+use Rattle.rf233.specs.Driver.{withTx, withRx, withTxLen}
 use Rattle.rf233.specs.declared.answer.Reply.{Reply}
 use Rattle.rf233.specs.declared.driver.Buffers.{Buffers}
 use Rattle.rf233.specs.declared.driver.Slot.{Slot}
 use Rattle.rf233.specs.declared.driver.Slot.the-variants.{Empty, Held}
 use Rattle.rf233.specs.declared.driver.Under.{Under}
 use Rattle.rf233.specs.declared.driver.Under.the-variants.{Idle, Register, FrameRead, FrameWrite}
-use Rattle.rf233.specs.Place.{clientPlace, ownPlace, transmitPlace, receivePlace, placesOf, when}
+use Rattle.rf233.specs.Place.{clientPlace, transmitPlace, receivePlace, transferPlace, placesOf}
 
 -- no frame transfer is under way
-abbrev pub noFrame : Under → Bool
+abbrev noFrame : Under → Bool
 noFrame u = ltb (underKind u) 3
 
-pub record Match (r : Buffers) (k : Page) : Type 0 where
+-- the own buffers are in their places exactly while no transfer has them
+pub record Own (a b c : Bool) (u : Under) : Type 0 where
+  pub tx : a ≡ not (eqb (underKind u) 1)
+  pub rx : b ≡ not (eqb (underKind u) 1)
+  pub buf : c ≡ noFrame u
+
+-- b is an own buffer, in its place while u is under way
+abbrev ownIn : Under → ℕ → Bool
+ownIn u b = (not (eqb (underKind u) 1) && eqb 16 b) || ((not (eqb (underKind u) 1) && eqb 17 b) || (noFrame u && eqb 18 b))
+
+-- with t and x in the client's places and u under way: at how many places buffer b is, and the sum of the places' numbers
+abbrev count : Slot → Slot → Under → ℕ → ℕ
+count t x u b = countBy (ownIn u b) (slotHas t b) (slotHas x b) (underHas u b)
+
+abbrev spots : Slot → Slot → Under → ℕ → ℕ
+spots t x u b = sumBy (ownIn u b) (slotHas t b) (slotHas x b) (underHas u b)
+
+-- a client's place has a buffer that is not a client's
+abbrev high : Slot → Slot → Under → Bool
+high t x u = slotAbove t || (slotAbove x || slotAbove (underSlot u))
+
+-- the transfer under way is the one that the book has
+pub record Going (u : Under) (n w r : ℕ) : Type 0 where
+  pub kind : kindOf n ≡ underKind u
+  pub write : w ≡ underWrite u
+  pub read : r ≡ underRead u
+
+-- a record agrees with the book: by the own buffers' places, the client's places and the transfer under way
+pub record Matched (a b c : Bool) (t x : Slot) (u : Under) (k : Page) : Type 0 where
   pub faultless : k .fault ≡ false
-  pub sized : length (k .places) ≡ 19
-  pub placed : (b : ℕ) → b < 19 → placesOf r b ≡ only (getD (k .places) b clientPlace)
-  pub kind-is : kindOf (k .kind) ≡ underKind (r .under)
-  pub write-is : k .write ≡ underWrite (r .under)
-  pub read-is : k .read ≡ underRead (r .under)
-  pub counted : k .accepted ≡ k .handed + k .dropped + away (k .places) 16
-  -- the own buffers are in their places exactly while no transfer has them
-  pub tx-own : r .«spi_tx» ≡ not (eqb (underKind (r .under)) 1)
-  pub rx-own : r .«spi_rx» ≡ not (eqb (underKind (r .under)) 1)
-  pub buf-own : r .«spi_buf» ≡ noFrame (r .under)
-  -- a client's place has a client's buffer
-  pub below : clientAbove r ≡ false
+  pub booked : Booked (count t x u) (spots t x u) (k .places) (k .accepted) (k .handed) (k .dropped)
+  pub going : Going u (k .kind) (k .write) (k .read)
+  pub own : Own a b c u
+  pub below : high t x u ≡ false
 
--- 1 for an own buffer in its own place, and for one under way: as the record has them beside a transfer
-abbrev ownOr : Under → ℕ → ℕ
-ownOr u b =
-    one ((not (eqb (underKind u) 1) && eqb 16 b) || ((not (eqb (underKind u) 1) && eqb 17 b) || (noFrame u && eqb 18 b)))
-    + one (underHas u b)
+-- the record r, as if u were under way; its lengths are not looked at
+abbrev MatchWith : Under → Buffers → Page → Type 0
+MatchWith u r k = Matched (r .«spi_tx») (r .«spi_rx») (r .«spi_buf») (r .«tx_buf») (r .«rx_buf») u k
 
-own-in : (u : Under) → (1 ≤ ownOr u 16) × (1 ≤ ownOr u 17) × (1 ≤ ownOr u 18)
-own-in Idle = (omega arith, omega arith, omega arith)
-own-in Register = (omega arith, omega arith, omega arith)
-own-in (FrameRead c l) = (omega arith, omega arith, omega arith)
-own-in (FrameWrite c l) = (omega arith, omega arith, omega arith)
+abbrev pub Match : Buffers → Page → Type 0
+Match r k = MatchWith (r .under) r k
 
-module _ (r : Buffers) (k : Page) (m : Match r k) where
-  before : (b : ℕ) → b < 19
-      → At (ownHas r b) (slotHas (r .«tx_buf») b) (slotHas (r .«rx_buf») b) (underHas (r .under) b) (getD (k .places) b clientPlace)
-  before b h = at _ _ _ _ _ (m .placed b h)
+-- a buffer that the book has at a place is not missing there
+there : (k : Page) (c q : ℕ) → c < 19 → getD (k .places) c clientPlace ≡ q → missing c q (k .places) ≡ false
+there k c q i e = rw (le-ltb 18 c (omega arith), e, same q)
 
-  lows : (slotAbove (r .«tx_buf») ≡ false) × (slotAbove (r .«rx_buf») ≡ false) × (slotAbove (underSlot (r .under)) ≡ false)
-  lows = none-of _ _ _ (m .below)
+-- ---- a transfer's two buffers
 
-  count-at : (b : ℕ) → b < 19 → countOf r b ≡ one (not (eqb (getD (k .places) b clientPlace) clientPlace))
-  unfolding countOf
-  count-at b h = before b h .count
+-- the client's places: t and x while transfer u has not taken its buffers, t′ and x′ while it has them
+data Takes : Under → Slot → Slot → Slot → Slot → Type 0 where
+  register : {t x : Slot} → Takes Register t x t x
+  reading : {t : Slot} {c l : ℕ} → Takes (FrameRead c l) t (Held c l) t Empty
+  writing : {x : Slot} {c l : ℕ} → Takes (FrameWrite c l) (Held c l) x Empty x
 
-  -- what the record does not have is with its client
-  with-client : (b : ℕ) → b < 19 → recordHas r b ≡ false → getD (k .places) b clientPlace ≡ 0
-  with-client b h e =
-      by-flag (eqb (getD (k .places) b clientPlace) 0) (λ q. eqb-true _ 0 q)
-      (λ q. absurd (omega (arith, ltb-false 0 (countOf r b) e, rw q at (count-at b h))))
+-- the two compared, by the kind of transfer: its beginning and its end both go by this
+record Differ (u : Under) (t x t′ x′ : Slot) : Type 0 where
+  lows : (underWrite u < 19) × (underRead u < 19)
+  apart : eqb (underWrite u) (underRead u) ≡ false
+  has : (underHas u (underWrite u) ≡ true) × (underHas u (underRead u) ≡ true)
+  kinds : (eqb (underKind u) 0 ≡ false) × (ltb 4 (underKind u) ≡ false) × (namesOwn (underKind u) (underWrite u) (underRead u) ≡ true)
+  counts : (b : ℕ) → count t′ x′ u b ≡ count t x Idle b
+  moves : (b : ℕ) → spots t′ x′ u b + both (underWrite u) (writeFrom (underKind u)) (underRead u) (readFrom (underKind u)) b
+      ≡ spots t x Idle b + both (underWrite u) transferPlace (underRead u) transferPlace b
 
-  -- with no transfer under way
-  module _ (u : r .under ≡ Idle) where
-    idle-before : (b : ℕ) → b < 19
-        → At (eqb 16 b || (eqb 17 b || eqb 18 b)) (slotHas (r .«tx_buf») b) (slotHas (r .«rx_buf») b) false (getD (k .places) b clientPlace)
-    idle-before b h = rw (m .tx-own, m .rx-own, m .buf-own, u) at (before b h)
+differ : {u : Under} {t x t′ x′ : Slot} → Takes u t x t′ x′ → high t′ x′ u ≡ false → Differ u t x t′ x′
+differ register e =
+    record {
+      lows = omega arith;
+      apart = refl;
+      has = (refl, refl);
+      kinds = (refl, refl, refl);
+      counts = λ b. omega (arith, of-three b, of-two 16 17 b refl);
+      moves = λ b. omega (arith, of-three b, of-two 16 17 b refl);
+    }
+differ (reading {t} {c}) e =
+    let h = low c (none-right (slotAbove t) (ltb 15 c) e) in
+    let d = ne-eqb 18 c (λ z. omega arith) in
+    record {
+      lows = omega arith;
+      apart = d;
+      has = (refl, rw (d, same c));
+      kinds = (refl, refl, refl);
+      counts = λ b. omega (arith, of-three b, of-first b, of-two 18 c b d);
+      moves = λ b. omega (arith, of-three b, of-first b, of-two 18 c b d);
+    }
+differ (writing {x} {c}) e =
+    let h = low c (none-right (slotAbove x) (ltb 15 c) e) in
+    let d = ne-eqb 18 c (λ z. omega arith) in
+    record {
+      lows = omega arith;
+      apart = ne-eqb c 18 (λ z. omega arith);
+      has = (rw (d, same c), refl);
+      kinds = (refl, refl, refl);
+      counts = λ b. omega (arith, of-three b, of-first b, of-two 18 c b d);
+      moves = λ b. omega (arith, of-three b, of-first b, of-two 18 c b d);
+    }
 
-    idle-kind : k .kind ≡ 0
-    idle-kind = plain-kind (k .kind) 0 (rw u at (m .kind-is)) (λ e. omega arith)
+high-same : {u : Under} {t x t′ x′ : Slot} → Takes u t x t′ x′ → high t′ x′ u ≡ high t x Idle
+high-same register = refl
+high-same reading = rw or-false
+high-same (writing {x} {c} {l}) = sym (or-left-comm (ltb 15 c) (slotAbove x) false ∙ rw or-false)
 
-    idle-own : (b : ℕ) → b < 19 → eqb 16 b || (eqb 17 b || eqb 18 b) ≡ true → getD (k .places) b clientPlace ≡ 1
-    idle-own b h e = let x = rw e at (idle-before b h) in omega arith
+-- what the transfer under way has, the book has with it
+with-it : (t x : Slot) (u : Under) (b : ℕ) → underHas u b ≡ true → count t x u b ≤ 1 → spots t x u b ≡ 4
+with-it t x u b e h = let y = rw e at h in rw e (omega arith)
 
-  -- a register transfer begins, of either direction
-  pub begins-register : (n : ℕ) → kindOf n ≡ 1 → isIdle (r .under) ≡ true
-      → Match (recordWith false false (r .«spi_buf») (r .«spi_buf_len») (r .«tx_buf») (r .«rx_buf») Register r) (taken n 16 17 k)
-  begins-register n e i =
-      let u = idle-is (r .under) i in
-      let (l, h) = register-kind n e in
-      let a : 16 < 19 = omega arith in
-      let b : 17 < 19 = omega arith in
-      let p = idle-own u 16 a refl in
-      let q = idle-own u 17 b refl in
+module _ {a b c a′ b′ c′ : Bool} {u : Under} {t x t′ x′ : Slot} {k : Page} (s : Takes u t x t′ x′) where
+  -- it begins where none is under way
+  begins-at : Matched a b c t x Idle k → Own a′ b′ c′ u → (n : ℕ) → kindOf n ≡ underKind u
+      → Matched a′ b′ c′ t′ x′ u (taken n (underWrite u) (underRead u) k)
+  begins-at m o n e =
+      let l = k .places in
+      let w = underWrite u in
+      let r = underRead u in
+      let v = differ s (high-same s ∙ m .below) in
+      let i = m .booked .placed w (v .lows .0) in
+      let j = m .booked .placed r (v .lows .1) in
+      let back = ne-eqb r w (λ z. eqb-false w r (v .apart) (sym z)) in
+      let y = with-it t′ x′ u w (v .has .0) (omega (arith, v .counts w)) in
+      let z = with-it t′ x′ u r (v .has .1) (omega (arith, v .counts r)) in
+      let p : getD (k .places) w clientPlace ≡ writeFrom (underKind u) = omega (arith, rw (same w, back) at (v .moves w)) in
+      let q : getD (k .places) r clientPlace ≡ readFrom (underKind u) = omega (arith, rw (same r, v .apart) at (v .moves r)) in
       record {
         faultless =
             rw (
               m .faultless,
-              idle-kind u,
-              le-ltb 4 n (omega arith),
-              ne-eqb n 3 (λ z. omega arith),
-              ne-eqb n 4 (λ z. omega arith),
-              p,
-              q,
+              as-kind (λ n. eqb n 0) (k .kind) refl,
+              m .going .kind,
+              as-kind (λ n. ltb 4 n || (not (namesOwn n w r) || (missing w (writeFrom n) l || missing r (readFrom n) l))) n refl,
+              e,
+              v .kinds .1,
+              v .kinds .2,
+              there k w _ (v .lows .0) p,
+              there k r _ (v .lows .1) q,
             );
-        sized = sized-two (k .places) 16 4 17 4 (m .sized);
-        placed =
-            put-two (k .places) 16 4 17 4 (m .sized) a b _ (rw (m .buf-own, u) (own-transfer (idle-before u 16 a)))
-            (rw (m .buf-own, u) (own-transfer (idle-before u 17 b)))
-            (λ b h f g. rw (f, g) (rw (m .tx-own, m .rx-own, u, f, g) at (m .placed b h)));
-        kind-is = e;
-        write-is = refl;
-        read-is = refl;
-        counted = rw (away-two (k .places) 16 4 17 4 (m .sized) a b 16 refl (rw p) (rw q)) (m .counted);
-        tx-own = refl;
-        rx-own = refl;
-        buf-own = rw u at (m .buf-own);
-        below = rw (lows .0, lows .1);
+        booked = two-moved (m .booked) w r _ _ 4 4 (v .lows .0) (v .lows .1) (v .apart) p q (v .counts) (v .moves);
+        going = record { kind = e; write = refl; read = refl };
+        own = o;
+        below = high-same s ∙ m .below;
       }
 
-  -- a frame read begins, into the buffer in the receive place
-  pub begins-read : (c l n : ℕ) → r .«rx_buf» ≡ Held c l → isIdle (r .under) ≡ true
-      → Match (recordWith (r .«spi_tx») (r .«spi_rx») false n (r .«tx_buf») Empty (FrameRead c l) r) (taken 3 18 c k)
-  begins-read c l n e i =
-      let u = idle-is (r .under) i in
-      let h = low c (rw e at (lows .1)) in
-      let a : 18 < 19 = omega arith in
-      let b : c < 19 = omega arith in
-      let d = ne-eqb 18 c (λ z. omega arith) in
-      let x = rw (e, same c, d) at (idle-before u c b) in
-      let p = idle-own u 18 a refl in
-      let q : getD (k .places) c clientPlace ≡ 3 = omega arith in
-      record {
-        faultless = rw (m .faultless, idle-kind u, le-ltb 18 c (omega arith), p, q);
-        sized = sized-two (k .places) 18 4 c 4 (m .sized);
-        placed =
-            put-two (k .places) 18 4 c 4 (m .sized) a b _
-            (rw (m .tx-own, m .rx-own, u) (own-transfer (rw (e, ne-eqb c 18 (λ z. omega arith)) at (idle-before u 18 a))))
-            (rw (m .tx-own, m .rx-own, u, d, same c) (rx-transfer x))
-            (λ b h f g. rw (f, g) (rw (e, m .buf-own, u, f, g) at (m .placed b h)));
-        kind-is = refl;
-        write-is = refl;
-        read-is = refl;
-        counted = rw (away-two (k .places) 18 4 c 4 (m .sized) a b 16 d (rw p) (rw q)) (m .counted);
-        tx-own = rw u at (m .tx-own);
-        rx-own = rw u at (m .rx-own);
-        buf-own = refl;
-        below = rw (lows .0, rw e at (lows .1));
-      }
-
-  -- a frame write begins, from the buffer in the transmit place
-  pub begins-write : (c l n : ℕ) → r .«tx_buf» ≡ Held c l → isIdle (r .under) ≡ true
-      → Match (recordWith (r .«spi_tx») (r .«spi_rx») false n Empty (r .«rx_buf») (FrameWrite c l) r) (taken 4 c 18 k)
-  begins-write c l n e i =
-      let u = idle-is (r .under) i in
-      let h = low c (rw e at (lows .0)) in
-      let a : c < 19 = omega arith in
-      let b : 18 < 19 = omega arith in
-      let d = ne-eqb 18 c (λ z. omega arith) in
-      let f = ne-eqb c 18 (λ z. omega arith) in
-      let x = rw (e, same c, d) at (idle-before u c a) in
-      let p : getD (k .places) c clientPlace ≡ 2 = omega arith in
-      let q = idle-own u 18 b refl in
-      record {
-        faultless = rw (m .faultless, idle-kind u, le-ltb 18 c (omega arith), p, q);
-        sized = sized-two (k .places) c 4 18 4 (m .sized);
-        placed =
-            put-two (k .places) c 4 18 4 (m .sized) a b _
-            (rw (m .tx-own, m .rx-own, u, d, same c) (tx-transfer x))
-            (rw (m .tx-own, m .rx-own, u) (own-transfer (rw (e, f) at (idle-before u 18 b))))
-            (λ b h f g. rw (g, f) (rw (e, m .buf-own, u, g, f) at (m .placed b h)));
-        kind-is = refl;
-        write-is = refl;
-        read-is = refl;
-        counted = rw (away-two (k .places) c 4 18 4 (m .sized) a b 16 f (rw p) (rw q)) (m .counted);
-        tx-own = rw u at (m .tx-own);
-        rx-own = rw u at (m .rx-own);
-        buf-own = refl;
-        below = rw (lows .1, rw e at (lows .0));
-      }
-
-  -- the transfer ends; the place that a frame transfer's buffer came from is empty
-  ends-register : r .under ≡ Register → Match (buffersBack Register r) (ended k)
-  ends-register u =
-      let (l, h) = register-kind (k .kind) (rw u at (m .kind-is)) in
-      let a : 16 < 19 = omega arith in
-      let b : 17 < 19 = omega arith in
-      let x = rw (m .tx-own, m .rx-own, m .buf-own, u) at (before 16 a) in
-      let y = rw (m .tx-own, m .rx-own, m .buf-own, u) at (before 17 b) in
-      let p : getD (k .places) 16 clientPlace ≡ 4 = omega arith in
-      let q : getD (k .places) 17 clientPlace ≡ 4 = omega arith in
+  -- it ends
+  ends-at : Matched a b c t′ x′ u k → Own a′ b′ c′ Idle → Matched a′ b′ c′ t x Idle (ended k)
+  ends-at m o =
+      let w = underWrite u in
+      let r = underRead u in
+      let v = differ s (m .below) in
+      let i = m .booked .placed w (v .lows .0) in
+      let j = m .booked .placed r (v .lows .1) in
+      let p : getD (k .places) w clientPlace ≡ 4 = i .1 ∙ with-it t′ x′ u w (v .has .0) (i .0) in
+      let q : getD (k .places) r clientPlace ≡ 4 = j .1 ∙ with-it t′ x′ u r (v .has .1) (j .0) in
       rw (
-        ne-eqb (k .kind) 0 (λ z. omega arith),
-        ne-eqb (k .kind) 3 (λ z. omega arith),
-        ne-eqb (k .kind) 4 (λ z. omega arith),
-        m .write-is,
-        m .read-is,
-        u,
+        as-kind (λ n. eqb n 0) (k .kind) refl,
+        as-kind writeFrom (k .kind) refl,
+        as-kind readFrom (k .kind) refl,
+        m .going .kind,
+        m .going .write,
+        m .going .read,
+        v .kinds .0,
       )
       (record {
         faultless = m .faultless;
-        sized = sized-two (k .places) 16 1 17 1 (m .sized);
-        placed =
-            put-two (k .places) 16 1 17 1 (m .sized) a b (placesOf (buffersBack Register r)) (transfer-own x) (transfer-own y)
-            (λ b h f g. rw (f, g) (rw (m .tx-own, m .rx-own, u, f, g) at (m .placed b h)));
-        kind-is = refl;
-        write-is = refl;
-        read-is = refl;
-        counted = rw (away-two (k .places) 16 1 17 1 (m .sized) a b 16 refl (rw p) (rw q)) (m .counted);
-        tx-own = refl;
-        rx-own = refl;
-        buf-own = rw u at (m .buf-own);
-        below = rw (lows .0, lows .1);
+        booked =
+            two-moved (m .booked) w r 4 4 _ _ (v .lows .0) (v .lows .1) (v .apart) p q (λ b. sym (v .counts b)) (λ b. sym (v .moves b));
+        going = record { kind = refl; write = refl; read = refl };
+        own = o;
+        below = sym (high-same s) ∙ m .below;
       })
 
-  ends-read : (c l : ℕ) → r .under ≡ FrameRead c l → isHeld (r .«rx_buf») ≡ false → Match (buffersBack (FrameRead c l) r) (ended k)
-  ends-read c l u e =
-      let t = empty-is (r .«rx_buf») e in
-      let h = low c (rw u at (lows .2)) in
-      let a : 18 < 19 = omega arith in
-      let b : c < 19 = omega arith in
-      let d = ne-eqb 18 c (λ z. omega arith) in
-      let x = rw (m .tx-own, m .rx-own, m .buf-own, u, t) at (before 18 a) in
-      let y = rw (m .buf-own, u, t, d, same c) at (before c b) in
-      let p : getD (k .places) 18 clientPlace ≡ 4 = omega arith in
-      let q : getD (k .places) c clientPlace ≡ 4 = omega arith in
-      rw (plain-kind (k .kind) 3 (rw u at (m .kind-is)) (λ z. omega arith), m .write-is, m .read-is, u)
-      (record {
-        faultless = m .faultless;
-        sized = sized-two (k .places) 18 1 c 3 (m .sized);
-        placed =
-            put-two (k .places) 18 1 c 3 (m .sized) a b (placesOf (buffersBack (FrameRead c l) r))
-            (rw (m .tx-own, m .rx-own, u, ne-eqb c 18 (λ z. omega arith)) (transfer-own x)) (rw (d, same c) (transfer-rx y))
-            (λ b h f g. rw (f, g) (rw (m .buf-own, u, t, f, g) at (m .placed b h)));
-        kind-is = refl;
-        write-is = refl;
-        read-is = refl;
-        counted = rw (away-two (k .places) 18 1 c 3 (m .sized) a b 16 d (rw p) (rw q)) (m .counted);
-        tx-own = rw u at (m .tx-own);
-        rx-own = rw u at (m .rx-own);
-        buf-own = refl;
-        below = rw (lows .0, rw u at (lows .2));
-      })
+-- the client's buffer of transfer u is in its place
+abbrev pub Ready : Under → Buffers → Type 0
+Ready Idle r = ⊥
+Ready Register r = Unit
+Ready (FrameRead c l) r = r .«rx_buf» ≡ Held c l
+Ready (FrameWrite c l) r = r .«tx_buf» ≡ Held c l
 
-  ends-write : (c l : ℕ) → r .under ≡ FrameWrite c l → isHeld (r .«tx_buf») ≡ false → Match (buffersBack (FrameWrite c l) r) (ended k)
-  ends-write c l u e =
-      let t = empty-is (r .«tx_buf») e in
-      let h = low c (rw u at (lows .2)) in
-      let a : c < 19 = omega arith in
-      let b : 18 < 19 = omega arith in
-      let d = ne-eqb 18 c (λ z. omega arith) in
-      let i = ne-eqb c 18 (λ z. omega arith) in
-      let x = rw (m .buf-own, u, t, d, same c) at (before c a) in
-      let y = rw (m .tx-own, m .rx-own, m .buf-own, u, t) at (before 18 b) in
-      let p : getD (k .places) c clientPlace ≡ 4 = omega arith in
-      let q : getD (k .places) 18 clientPlace ≡ 4 = omega arith in
-      rw (plain-kind (k .kind) 4 (rw u at (m .kind-is)) (λ z. omega arith), m .write-is, m .read-is, u)
-      (record {
-        faultless = m .faultless;
-        sized = sized-two (k .places) c 2 18 1 (m .sized);
-        placed =
-            put-two (k .places) c 2 18 1 (m .sized) a b (placesOf (buffersBack (FrameWrite c l) r))
-            (rw (d, same c) (transfer-tx x)) (rw (m .tx-own, m .rx-own, u, i) (transfer-own y))
-            (λ b h f g. rw (f, g) (rw (m .buf-own, u, t, g, f) at (m .placed b h)));
-        kind-is = refl;
-        write-is = refl;
-        read-is = refl;
-        counted = rw (away-two (k .places) c 2 18 1 (m .sized) a b 16 i (rw p) (rw q)) (m .counted);
-        tx-own = rw u at (m .tx-own);
-        rx-own = rw u at (m .rx-own);
-        buf-own = refl;
-        below = rw (lows .1, rw u at (lows .2));
-      })
+-- ---- a client's buffer
 
-  pub ends : isIdle (r .under) ≡ false → heldBesides r ≡ false → Match (buffersBack (r .under) r) (ended k)
-  ends i h = go (r .under) refl
+-- the client's places: t and x without client's buffer c, t′ and x′ with it at place p
+record Lent (c p : ℕ) (u : Under) (t x t′ x′ : Slot) : Type 0 where
+  more : More c p (count t x u) (spots t x u) (count t′ x′ u) (spots t′ x′ u)
+  highs : high t′ x′ u ≡ ltb 15 c || high t x u
+
+lent-tx : {u : Under} {x : Slot} (c l : ℕ) → Lent c transmitPlace u Empty x (Held c l) x
+lent-tx c l = record { more = omega arith; highs = refl }
+
+lent-rx : {u : Under} {t : Slot} (c l : ℕ) → Lent c receivePlace u t Empty t (Held c l)
+lent-rx {t} c l = record { more = omega arith; highs = or-left-comm (slotAbove t) (ltb 15 c) _ }
+
+module _ {a b d : Bool} {c p : ℕ} {u : Under} {t x t′ x′ : Slot} {k : Page} (v : Lent c p u t x t′ x′) where
+  -- it comes, from the client
+  lends-at : Matched a b d t x u k → c < 16 → count t x u c ≡ 0 → full p k ≡ false → Matched a b d t′ x′ u (brought c p k)
+  lends-at m h e f =
+      let (g, s) = comes (v .more) (m .booked) h e in
+      record {
+        faultless = rw (m .faultless, there k c 0 (omega arith) g, f);
+        booked = s;
+        going = m .going;
+        own = m .own;
+        below = rw (v .highs, le-ltb 15 c (omega arith)) (m .below);
+      }
+
+  -- it goes, to the client
+  gives-at : Matched a b d t′ x′ u k → (i j : ℕ) → i + j ≡ 1 → Matched a b d t x u (given c p i j k)
+  gives-at m i j e =
+      let o : ltb 15 c || high t x u ≡ false = sym (v .highs) ∙ m .below in
+      let h = low c (none-left (ltb 15 c) (high t x u) o) in
+      let (g, s) = goes (v .more) (m .booked) h i j e in
+      record {
+        faultless = rw (m .faultless, there k c p (omega arith) g);
+        booked = s;
+        going = m .going;
+        own = m .own;
+        below = none-right (ltb 15 c) (high t x u) o;
+      }
+
+-- whether a transfer took a buffer from the transmit or the receive place
+took : (u : Under) → (eqb (writeFrom (underKind u)) 2 || eqb (readFrom (underKind u)) 2 ≡ isHeld (txUnderWay u))
+    × (eqb (writeFrom (underKind u)) 3 || eqb (readFrom (underKind u)) 3 ≡ isHeld (rxUnderWay u))
+took Idle = (refl, refl)
+took Register = (refl, refl)
+took (FrameRead c l) = (refl, refl)
+took (FrameWrite c l) = (refl, refl)
+
+-- an own buffer is in its place or under way
+abbrev ownOr : Under → ℕ → ℕ
+ownOr u b = one (ownIn u b) + one (underHas u b)
+
+own-in : (u : Under) → (1 ≤ ownOr u 16) × (1 ≤ ownOr u 17) × (1 ≤ ownOr u 18)
+own-in Idle = omega arith
+own-in Register = omega arith
+own-in (FrameRead c l) = omega arith
+own-in (FrameWrite c l) = omega arith
+
+-- ---- the moves, of a record
+
+module _ (r : Buffers) (k : Page) (m : Match r k) where
+  -- a transfer begins, of either direction where it is a register's
+  pub begins : (u : Under) (n : ℕ) → Ready u r → kindOf n ≡ underKind u → freeToStart r ≡ true
+      → Match (buffersAway u r) (taken n (underWrite u) (underRead u) k)
+  begins u n y e i = go u y e (rw (idle-is (r .under) i) at m)
     where
-      go : (u : Under) → r .under ≡ u → Match (buffersBack u r) (ended k)
-      go Idle e = let z : _≡_ {A = ℕ} 0 1 = cc in absurd (omega arith)
-      go Register e = ends-register e
-      go (FrameRead c l) e = ends-read c l e (rw (e, and-false, and-true) at h)
-      go (FrameWrite c l) e = ends-write c l e (rw (e, and-true, and-false, or-false) at h)
+      go : (u : Under) → Ready u r → kindOf n ≡ underKind u → MatchWith Idle r k
+          → Match (buffersAway u r) (taken n (underWrite u) (underRead u) k)
+      go Idle y e m = absurd y
+      go Register y e m = begins-at register m (record { tx = refl; rx = refl; buf = m .own .buf }) n e
+      go (FrameRead c l) y e m = begins-at (rw y reading) m (record { tx = m .own .tx; rx = m .own .rx; buf = refl }) n e
+      go (FrameWrite c l) y e m = begins-at (rw y writing) m (record { tx = m .own .tx; rx = m .own .rx; buf = refl }) n e
 
-  -- a client's buffer comes or goes: from place q to place p, and the client's places are then x and y
-  one-moved : (x y : Slot) (n c p q a h d : ℕ) → c < 16 → getD (k .places) c clientPlace ≡ q
-      → a + one (not (eqb q clientPlace)) + (k .handed + k .dropped) ≡ k .accepted + (h + d) + one (not (eqb p clientPlace))
-      → slotAbove x ≡ false → slotAbove y ≡ false → placesOf (lent x y n r) c ≡ only p
-      → ((b : ℕ) → b < 19 → eqb c b ≡ false → placesOf (lent x y n r) b ≡ only (getD (k .places) b clientPlace))
-      → Match (lent x y n r) (page (set (k .places) c p) (k .kind) (k .write) (k .read) a h d (k .fault || missing c q (k .places)))
-  one-moved x y n c p q a h d i e s t u here else =
-      let z : c < length (k .places) = omega (arith, m .sized) in
-      record {
-        faultless = rw (m .faultless, le-ltb 18 c (omega arith), e, same q);
-        sized = rw length-set (m .sized);
-        placed = λ b j. put (k .places) c p z (placesOf (lent x y n r)) b here (else b j);
-        kind-is = m .kind-is;
-        write-is = m .write-is;
-        read-is = m .read-is;
-        counted = omega (arith, m .counted, rw e at (away-set (k .places) c p z 16 i));
-        tx-own = m .tx-own;
-        rx-own = m .rx-own;
-        buf-own = m .buf-own;
-        below = rw (t, u, lows .2);
-      }
+  -- the transfer ends; the place that a frame transfer's buffer came from is empty
+  pub ends : toComplete r ≡ true → heldBesides r ≡ false → Match (buffersBack (r .under) r) (ended k)
+  ends i h = go (r .under) i h m
+    where
+      go : (u : Under) → underWay u ≡ true
+          → (isHeld (r .«tx_buf») && isHeld (txUnderWay u)) || (isHeld (r .«rx_buf») && isHeld (rxUnderWay u)) ≡ false
+          → MatchWith u r k → Match (buffersBack u r) (ended k)
+      go Idle i h m = let z : _≡_ {A = ℕ} 0 1 = cc in absurd (omega arith)
+      go Register i h m = ends-at register m (record { tx = refl; rx = refl; buf = m .own .buf })
+      go (FrameRead c l) i h m =
+          ends-at (rw (empty-is (r .«rx_buf») (rw (and-false, and-true) at h)) reading) m
+          (record { tx = m .own .tx; rx = m .own .rx; buf = refl })
+      go (FrameWrite c l) i h m =
+          ends-at (rw (empty-is (r .«tx_buf») (rw (and-true, and-false, or-false) at h)) writing) m
+          (record { tx = m .own .tx; rx = m .own .rx; buf = refl })
 
-  -- the buffer in the transmit place goes back to its client, handed or dropped
-  pub gives-tx : (c l i j : ℕ) → r .«tx_buf» ≡ Held c l → i + j ≡ 1 → Match (withoutTx r) (given c transmitPlace i j k)
-  gives-tx c l i j e s =
-      let h = low c (rw e at (lows .0)) in
-      let x = rw (e, same c) at (before c (omega arith)) in
-      one-moved Empty (r .«rx_buf») _ c 0 2 _ _ _ h (omega arith) (omega arith) refl (lows .1) (tx-client x)
-      (λ b i f. rw (e, f) at (m .placed b i))
+  -- what the agreement says of the record: at how many places it has a buffer, and at which
+  count-is : (b : ℕ) → countOf r b ≡ count (r .«tx_buf») (r .«rx_buf») (r .under) b
+  unfolding countOf
+  count-is b = rw (m .own .tx, m .own .rx, m .own .buf)
 
-  -- the buffer in the receive place goes back to its client
-  pub gives-rx : (c l : ℕ) → r .«rx_buf» ≡ Held c l → Match (withoutRx r) (given c receivePlace 1 0 k)
-  gives-rx c l e =
-      let h = low c (rw e at (lows .1)) in
-      let x = rw (e, same c) at (before c (omega arith)) in
-      one-moved (r .«tx_buf») Empty _ c 0 3 _ _ _ h (omega arith) (omega arith) (lows .0) refl (rx-client x)
-      (λ b i f. rw (e, f) at (m .placed b i))
+  pub fitted : (b : ℕ) → b < 19
+      → (placesOf r b ≡ only (getD (k .places) b clientPlace))
+      × (one (eqb (getD (k .places) b clientPlace) transmitPlace) ≡ one (slotHas (r .«tx_buf») b))
+      × (one (eqb (getD (k .places) b clientPlace) receivePlace) ≡ one (slotHas (r .«rx_buf») b))
+  fitted b h =
+      rw (m .own .tx, m .own .rx, m .own .buf, m .booked .placed b h .1)
+      (fit (ownIn (r .under) b) (slotHas (r .«tx_buf») b) (slotHas (r .«rx_buf») b) (underHas (r .under) b) (m .booked .placed b h .0))
 
-  -- a client's buffer is lent for sending, or for receiving
-  pub lends-tx : (b l n : ℕ) → b < 16 → isHeld (r .«tx_buf») ≡ false → recordHas r b ≡ false
-      → Match (lent (Held b l) (r .«rx_buf») n r) (brought b transmitPlace k)
-  lends-tx b l n h e f =
-      let t = empty-is (r .«tx_buf») e in
-      let p = with-client b (omega arith) f in
-      one-moved (Held b l) (r .«rx_buf») n b 2 0 _ _ _ h p (omega arith) (le-ltb 15 b (omega arith)) (lows .1)
-      (rw (same b) (client-tx (rw (t, p) at (before b (omega arith))))) (λ c i g. rw g (rw t at (m .placed c i)))
-
-  pub lends-rx : (b l n : ℕ) → b < 16 → isHeld (r .«rx_buf») ≡ false → recordHas r b ≡ false
-      → Match (lent (r .«tx_buf») (Held b l) n r) (brought b receivePlace k)
-  lends-rx b l n h e f =
-      let t = empty-is (r .«rx_buf») e in
-      let p = with-client b (omega arith) f in
-      one-moved (r .«tx_buf») (Held b l) n b 3 0 _ _ _ h p (omega arith) (lows .0) (le-ltb 15 b (omega arith))
-      (rw (same b) (client-rx (rw (t, p) at (before b (omega arith))))) (λ c i g. rw g (rw t at (m .placed c i)))
-
-  -- what a refusal leaves
-  pub refuses : (y : Reply) → y .actions .count ≡ 0 → y .transfer .kind ≡ 0 → Match r (turnedDown y k)
-  refuses y e f =
-      record {
-        faultless = rw (m .faultless, e, f);
-        sized = m .sized;
-        placed = m .placed;
-        kind-is = m .kind-is;
-        write-is = m .write-is;
-        read-is = m .read-is;
-        counted = m .counted;
-        tx-own = m .tx-own;
-        rx-own = m .rx-own;
-        buf-own = m .buf-own;
-        below = m .below;
-      }
+  -- what it does not have is at no place
+  free : (b : ℕ) → recordHas r b ≡ false → count (r .«tx_buf») (r .«rx_buf») (r .under) b ≡ 0
+  free b e = omega (arith, count-is b, ltb-false 0 (countOf r b) e)
 
   -- the sum, by the driver's record
   pub counted-in-record : k .accepted ≡ k .handed + k .dropped + heldBelow r 16
-  unfolding away
-  counted-in-record = rw (held-away 16 (omega arith)) (m .counted)
+  unfolding sum
+  counted-in-record = rw (held 16 (omega arith)) (m .booked .counted)
     where
-      held-away : (n : ℕ) → n ≤ 16 → heldBelow r n ≡ away (k .places) n
-      held-away zero h = refl
-      held-away (suc n) h = rw (held-away n (omega arith), count-at n (omega arith), one-some)
-
-  own-has : (b : ℕ) → 1 ≤ ownOr (r .under) b → recordHas r b ≡ true
-  unfolding countOf
-  own-has b h = lt-ltb 0 (countOf r b) (rw (m .tx-own, m .rx-own, m .buf-own) (omega arith))
+      held : (n : ℕ) → n ≤ 16 → heldBelow r n ≡ sum (count (r .«tx_buf») (r .«rx_buf») (r .under)) n
+      held zero h = refl
+      held (suc n) h = rw (held n (omega arith), count-is n, some-one _ (m .booked .placed n (omega arith) .0))
 
   -- two clauses of refusal 12 do not hold
   pub once : recordedTwice r ≡ false
@@ -409,39 +330,71 @@ module _ (r : Buffers) (k : Page) (m : Match r k) where
     where
       twice-none : (n : ℕ) → n ≤ 19 → twiceBelow r n ≡ false
       twice-none zero h = refl
-      twice-none (suc n) h = rw (twice-none n (omega arith), count-at n (omega arith), one-twice)
+      twice-none (suc n) h = rw (twice-none n (omega arith), count-is n, le-ltb 1 _ (m .booked .placed n (omega arith) .0))
+
+  own-has : (b : ℕ) → 1 ≤ ownOr (r .under) b → recordHas r b ≡ true
+  own-has b h = lt-ltb 0 (countOf r b) (omega (arith, count-is b))
 
   pub somewhere : ownNowhere r ≡ false
   somewhere = let o = own-in (r .under) in rw (own-has 16 (o .0), own-has 17 (o .1), own-has 18 (o .2))
 
--- a new driver and a new book agree
-new-places : (b : ℕ) → b < 19 → when (eqb 16 b || (eqb 17 b || eqb 18 b)) ownPlace [] ≡ only (getD (newPage .places) b clientPlace)
-new-places b h =
-    by-flag (eqb 16 b) (λ p. rw (← eqb-true 16 b p))
-    (λ p. by-flag (eqb 17 b) (λ q. rw (← eqb-true 17 b q))
-    (λ q. by-flag (eqb 18 b) (λ s. rw (← eqb-true 18 b s))
-    (λ s.
-    let x = eqb-false 16 b p in
-    let y = eqb-false 17 b q in
-    let z = eqb-false 18 b s in
-    let i : b < 16 = omega arith in
-    rw (p, q, s)
-    (sym (ap only (List·getD-append (replicate 16 clientPlace) (ownPlace ∷ ownPlace ∷ ownPlace ∷ []) clientPlace b i ∙ getD-replicate 16 b
-    clientPlace clientPlace i))))))
+  -- the buffer in the transmit place goes back to its client, handed or dropped
+  pub gives-tx : (c l i j : ℕ) → r .«tx_buf» ≡ Held c l → i + j ≡ 1 → Match (withoutTx r) (given c transmitPlace i j k)
+  gives-tx c l i j e s = gives-at (lent-tx c l) (rw e at m) i j s
+
+  -- the buffer in the receive place goes back to its client
+  pub gives-rx : (c l : ℕ) → r .«rx_buf» ≡ Held c l → Match (withoutRx r) (given c receivePlace 1 0 k)
+  gives-rx c l e = gives-at (lent-rx c l) (rw e at m) 1 0 refl
+
+  -- there is room at a place that is empty, and that no transfer under way took a buffer from
+  has-room : (p : ℕ) → leb (room p) 0 ≡ false → ((b : ℕ) → b < 19 → one (eqb (getD (k .places) b clientPlace) p) ≡ 0)
+      → eqb (writeFrom (underKind (r .under))) p || eqb (readFrom (underKind (r .under))) p ≡ false → full p k ≡ false
+  has-room p s e f =
+      rw (
+        filled-none p (k .places) 19 e,
+        as-kind (λ n. eqb (writeFrom n) p || eqb (readFrom n) p) (k .kind) refl,
+        m .going .kind,
+        f,
+      ) s
+
+  -- a client's buffer is lent for sending, or for receiving
+  pub lends-tx : (b l n : ℕ) → b < 16 → isHeld (r .«tx_buf») ≡ false → isHeld (txUnderWay (r .under)) ≡ false → recordHas r b ≡ false
+      → Match (withTxLen n (withTx (Held b l) r)) (brought b transmitPlace k)
+  lends-tx b l n h e u f =
+      let t = empty-is (r .«tx_buf») e in
+      lends-at (lent-tx b l) (rw t at m) h (rw t at (free b f))
+      (has-room transmitPlace refl (λ b i. rw t at (fitted b i .1)) (took (r .under) .0 ∙ u))
+
+  pub lends-rx : (b l : ℕ) → b < 16 → isHeld (r .«rx_buf») ≡ false → isHeld (rxUnderWay (r .under)) ≡ false → recordHas r b ≡ false
+      → Match (withRx (Held b l) r) (brought b receivePlace k)
+  lends-rx b l h e u f =
+      let t = empty-is (r .«rx_buf») e in
+      lends-at (lent-rx b l) (rw t at m) h (rw t at (free b f))
+      (has-room receivePlace refl (λ b i. rw t at (fitted b i .2)) (took (r .under) .1 ∙ u))
+
+  -- what a refusal leaves
+  pub refuses : (y : Reply) → acts (y .actions .items) ≡ false → y .transfer .kind ≡ 0 → Match r (turnedDown y k)
+  refuses y e f = rw (e, f, or-false) m
+
+-- a new driver and a new book agree: each buffer is tried
+abbrev newly : ℕ → Bool
+newly n = leb (count Empty Empty Idle n) 1 && eqb (getD (newPage .places) n clientPlace) (spots Empty Empty Idle n)
 
 pub match-new : (l c : ℕ) → Match (newDriver l c .buffers) newPage
-unfolding away
+unfolding sum
 match-new l c =
     record {
       faultless = refl;
-      sized = refl;
-      placed = new-places;
-      kind-is = refl;
-      write-is = refl;
-      read-is = refl;
-      counted = refl;
-      tx-own = refl;
-      rx-own = refl;
-      buf-own = refl;
+      booked =
+          record {
+            sized = refl;
+            placed = λ n h.
+                let v = leb (count Empty Empty Idle n) 1 in
+                let t = below-at newly 19 tt n h in
+                (leb→le _ 1 (left v _ t), eqb→eq _ _ (right v _ t));
+            counted = refl;
+          };
+      going = record { kind = refl; write = refl; read = refl };
+      own = record { tx = refl; rx = refl; buf = refl };
       below = refl;
     }

@@ -1,283 +1,183 @@
--- Each part of a completion, and a firing, keeps the invariant of Custody.antt. From the row test of Fit.antt and the moves of Match.antt.
--- Assumes nothing.
+-- Each step in which a completion ends, and a firing, keeps the invariant of Custody.antt where a transfer may begin: `ends`, for the one
+-- walk through the phases (`completion-by` of rf233). From the row test of Fit.antt and the moves of Match.antt. Assumes nothing.
 use mathlib.Core.Path.{_≡_, refl, sym, ap, subst, _∙_}
-use mathlib.Core.Bool.{Bool, true, false, not, _&&_, _||_}
-use mathlib.Core.List.{List, []}
+use mathlib.Core.Bool.{true, false, not, _&&_}
+use mathlib.Core.List.{[]}
 use Prim.Native.Nat.{ℕ}
 use native.Mathlib.Nat.{le-trans}
 use lib.Dec.{T, eqb, leb, leb→le}
 use lib.ListN.{length}
 use Rattle.rf233.specs.Action.{actions}
-use Rattle.rf233.specs.Step.{stepOf}
-use Rattle.custody.specs.Book.{Page, begun}
-use Rattle.rf233.specs.Choice.{pick}
-use Rattle.custody.specs.Claim.{kindOf}
-use Rattle.rf233.specs.Record.{isHeld}
-use Rattle.rf233.specs.Driver.{Assignment, flag, assignAll, assigning, flagged, withState, withBuffers}
-use Rattle.rf233.specs.Completion.{fallsOn, waitingCommit, pendingInterrupt, readyBookkeeping, frameEnd, interruptResult, nowOn}
-use Rattle.rf233.specs.Interrupt.{handleInterrupt, interruptState, rxStart}
-use Rattle.rf233.specs.Driver.Flag.{transmitting, interruptHandling, receiving, interruptPending}
-use Rattle.rf233.specs.Case.{perform, accessed, caseOf, ownCase, shown, handed, trees, treeAt}
-use Rattle.rf233.specs.Rows.{Access, Shown, Row, holds, eval}
-use Rattle.rf233.specs.Rows.Test.{lengthFits}
+use Rattle.rf233.specs.Case.{perform, accessed, caseOf, ownCase, shown, handed, entering, trees, treeAt}
+use Rattle.rf233.specs.Choice.{pick, within}
+use Rattle.rf233.specs.Completion.{fallsOn}
+use Rattle.rf233.specs.Driver.{assigning, flagged, withBuffers, withState}
+use Rattle.rf233.specs.Driver.Flag.{interruptHandling}
+use Rattle.rf233.specs.Interrupt.{handleInterrupt, interruptState}
+use Rattle.rf233.specs.Rows.{Next, Row, holds, eval}
 use Rattle.rf233.specs.Rows.Next.{same, to}
 use Rattle.rf233.specs.Rows.Row.{does}
-use Rattle.rf233.specs.State.{stateNo}
-use Rattle.rf233.specs.Transfer.{isIdle}
+use Rattle.rf233.specs.Rows.Test.{lengthFits}
 use Rattle.rf233.specs.Starter.{registerTransfer}
+use Rattle.rf233.specs.State.{stateNo}
+use Rattle.rf233.specs.Step.{stepOf}
+use Rattle.rf233.specs.Transfer.{freeToStart}
+use Rattle.rf233.specs.declared.action.Actions.{Actions}
+use Rattle.rf233.specs.declared.answer.Outcome.{Outcome}
 use Rattle.rf233.specs.declared.arrived.Arrived.{Arrived}
 use Rattle.rf233.specs.declared.driver.Driver.{Driver}
+use Rattle.rf233.specs.declared.driver.Under.the-variants.{Register}
 use Rattle.rf233.specs.declared.state.InternalState.{InternalState}
 use Rattle.rf233.specs.declared.state.InternalState.the-variants.{
   READY,
   «CONFIG_SHORT0_SET»,
   «RX_TURNING_OFF»,
-  «RX_START_READING»,
   «TX_STATUS_PRECHECK1»,
 }
+use Rattle.custody.specs.Book.{Page, notedAll}
+use Rattle.custody.specs.Claim.{kindOf}
+use Rattle.laws.proofs.Logic.{left, right}
+use Rattle.rf233.proofs.ChoiceLaws.{branch}
+use Rattle.rf233.proofs.EveryStep.{Kept, Ends, commits-first, every-access}
+use Rattle.rf233.proofs.Facts.{kind, isNone, of, under, entered, entered-is, prepared-is}
+use Rattle.rf233.proofs.Facts.Kind.{access}
+use Rattle.rf233.proofs.Fit.{fit, okShown, okAccess, okRow, row-fits, to-46, to-60, to-handling, to-62, to-33, to-29, to-59, to-28, to-42}
+use Rattle.custody.proofs.Actions.{notes, filled, fewer, hands}
+use Rattle.custody.proofs.BookLaws.{idle-is}
 use Rattle.custody.proofs.Custody.{
   Inv,
   After,
   Lengths,
-  notes,
-  filled,
-  filled-fits,
-  shown-fits,
-  fewer,
-  hands,
+  with-transfer,
   handed-lengths,
-  handed-under,
-  handed-tx,
-  handed-rx,
-  flag-after,
-  access-keeps,
-  register-keeps,
-  under-idle,
-  register-begins,
+  handed-free,
   lengths-register,
+  register-begins,
+  register-keeps,
+  access-keeps,
 }
-use Rattle.rf233.proofs.Fit.{
-  kind,
-  fit,
-  final,
-  okShown,
-  okAccess,
-  okRow,
-  txLeft,
-  rxLeft,
-  row-fits,
-  not-handling,
-  to-46,
-  to-60,
-  to-handling,
-  to-62,
-  to-33,
-  to-29,
-  to-59,
-  to-28,
-  to-42,
-}
-use Rattle.rf233.proofs.Fit.Kind.{nothing, access}
-use Rattle.laws.proofs.Logic.{left, right, is-false, none-left}
-use Rattle.rf233.proofs.ChoiceLaws.{branch}
-use Rattle.rf233.specs.Described.{slotAbove}
-use Rattle.custody.proofs.Match.{Match, begins-register}
+use Rattle.custody.proofs.Match.{Match, begins}
 
 -- what the tree asks of the length, as a fact about the byte
-length-known : (a : Arrived) (d : Driver) → holds lengthFits a d ≡ (leb 11 (a .result) && leb (a .result) 127)
+length-known : (a : Arrived) (d : Driver) → holds lengthFits a d ≡ within 11 127 (a .result)
 unfolding holds
 length-known a d = refl
 
--- the length is in its range
-abbrev inRange : Arrived → Bool
-inRange a = leb 11 (a .result) && leb (a .result) 127
+-- the state that a row enters leaves the record
+entering-record : (m : Next) (d : Driver) → entering m d .buffers ≡ d .buffers
+entering-record same d = refl
+entering-record (to s) d = refl
 
--- a row's actions and access, from a driver in the row's state with the row's flags
-module _ (k : Page) (e : Driver) (a : Arrived) (m : Match (e .buffers) k) (g : Lengths (e .buffers))
-    (i : isIdle (e .buffers .under) ≡ true) where
-  carry : (x : Access) (sh : List Shown) → T
-      (leb (length sh) 6 && okShown sh (isHeld (e .buffers .«tx_buf»)) (isHeld (e .buffers .«rx_buf»)))
-      → T (okAccess x (stateNo (e .state)) (txLeft sh (isHeld (e .buffers .«tx_buf»))) (rxLeft sh (isHeld (e .buffers .«rx_buf»)))
-      (flag transmitting (e .flags)) (flag interruptHandling (e .flags)) (inRange a))
-      → After k (stepOf (accessed x a (withBuffers (handed sh (e .buffers)) e)) (actions (shown a e sh)))
-  carry x sh p o =
-      let b = handed sh (e .buffers) in
-      let c = withBuffers b e in
-      let six = leb→le (length sh) 6 (left (leb (length sh) 6) _ p) in
-      let given = hands a e sh (e .buffers) k (record { tx-of = λ y. refl; rx-of = λ y. refl }) (right (leb (length sh) 6) _ p) m in
-      let fits =
-      subst (λ t. T (okAccess x (stateNo (e .state)) t (isHeld (b .«rx_buf»)) (flag transmitting (e .flags))
-      (flag interruptHandling (e .flags)) (inRange a))) (sym (handed-tx sh (e .buffers)))
-      (subst (λ r. T (okAccess x (stateNo (e .state)) (txLeft sh (isHeld (e .buffers .«tx_buf»))) r (flag transmitting (e .flags))
-      (flag interruptHandling (e .flags)) (inRange a))) (sym (handed-rx sh (e .buffers))) o) in
-      let kept = access-keeps a c (notes (shown a e sh) k) given (handed-lengths sh (e .buffers) g)
-      (ap isIdle (handed-under sh (e .buffers)) ∙ i) x fits in
-      let st = accessed x a c in
+-- the invariant, where a transfer may begin
+pub record Rest (k : Page) (d : Driver) : Type 0 where
+  pub inv : Inv k d
+  pub free : freeToStart (d .buffers) ≡ true
+
+module _ (k : Page) where
+  -- no transfer is under way
+  rests : (d : Driver) → Rest k d → T (isNone (kind (d .buffers .under)))
+  rests d v = rw (idle-is (d .buffers .under) (v .free)) tt
+
+  -- another driver with the same record
+  pub rested : (d e : Driver) → Rest k d → e .buffers ≡ d .buffers → T (fit (of e)) → Rest k e
+  rested d e v q o =
       record {
-        inv = subst (λ z. Inv (begun (st .transfer .kind) (st .transfer .write) (st .transfer .read) z) (st .driver))
-            (sym (filled 6 6 (shown a e sh) k (le-trans (fewer a e sh) six))) (kept .inv);
-        spans = kept .spans;
-        shows = filled-fits 6 6 (shown a e sh)
-            (shown-fits a e (none-left (slotAbove (e .buffers .«tx_buf»)) _ (m .below)) sh _ _ (right (leb (length sh) 6) _ p));
+        inv = record {
+          match = subst (λ b. Match b k) (sym q) (v .inv .match);
+          fitted = o;
+          lengths = subst Lengths (sym q) (v .inv .lengths);
+        };
+        free = ap freeToStart q ∙ v .free;
       }
 
--- a row that passes the test, while no transfer is under way
-module _ (k : Page) (d : Driver) (a : Arrived) (v : Inv k d) (i : isIdle (d .buffers .under) ≡ true)
-    (h : flag interruptHandling (d .flags) ≡ false) where
-  -- the flags that the row leaves are those of the test
-  settled : (l : List Assignment) (f : Bool → Bool → Bool)
-      → T (f (final transmitting l (flag transmitting (d .flags))) (final interruptHandling l false))
-      → T (f (flag transmitting (assignAll (a .result) l (d .flags))) (flag interruptHandling (assignAll (a .result) l (d .flags))))
-  settled l f o =
-      let q = flag-after (a .result) l (d .flags) in
-      subst (λ z. T (f z (flag interruptHandling (assignAll (a .result) l (d .flags))))) (sym (q .0))
-      (subst (λ z. T (f (final transmitting l (flag transmitting (d .flags))) z)) (sym (q .1 ∙ ap (final interruptHandling l) h)) o)
+  -- a register transfer is asked for
+  pub asks : (d e : Driver) → Rest k d → e .buffers ≡ d .buffers → (n x y : ℕ) → kindOf n ≡ 1 → eqb n 0 ≡ false → T (fit (under access (of e)))
+      → After k (stepOf (registerTransfer n x y e) (actions []))
+  asks d e v q =
+      register-keeps k e (subst (λ b. Match b k) (sym q) (v .inv .match)) (subst Lengths (sym q) (v .inv .lengths))
+      (ap freeToStart q ∙ v .free) (actions [])
 
-  perform-keeps : (x : Row) → T (okRow (stateNo (d .state)) (isHeld (d .buffers .«tx_buf»)) (isHeld (d .buffers .«rx_buf»))
-      (flag transmitting (d .flags)) (inRange a) x)
-      → After k (perform x a d)
+  -- a row that passes the test
+  perform-keeps : (a : Arrived) (d : Driver) → Rest k d → (r : Row) → T (okRow (within 11 127 (a .result)) (of d) r) → After k (perform r a d)
   unfolding perform
-  perform-keeps (does l x same sh) o =
-      let p = leb (length sh) 6 && okShown sh (isHeld (d .buffers .«tx_buf»)) (isHeld (d .buffers .«rx_buf»)) in
-      let f : Bool → Bool → Bool = λ s z. okAccess x (stateNo (d .state)) (txLeft sh (isHeld (d .buffers .«tx_buf»)))
-      (rxLeft sh (isHeld (d .buffers .«rx_buf»))) s z (inRange a) in
-      let q = f (final transmitting l (flag transmitting (d .flags))) (final interruptHandling l false) in
-      carry k (assigning (a .result) l d) a (v .match) (v .lengths) i x sh (left p q o) (settled l f (right p q o))
-  perform-keeps (does l x (to n) sh) o =
-      let p = leb (length sh) 6 && okShown sh (isHeld (d .buffers .«tx_buf»)) (isHeld (d .buffers .«rx_buf»)) in
-      let f : Bool → Bool → Bool = λ s z. okAccess x (stateNo n) (txLeft sh (isHeld (d .buffers .«tx_buf»)))
-      (rxLeft sh (isHeld (d .buffers .«rx_buf»))) s z (inRange a) in
-      let q = f (final transmitting l (flag transmitting (d .flags))) (final interruptHandling l false) in
-      carry k (withState n (assigning (a .result) l d)) a (v .match) (v .lengths) i x sh (left p q o) (settled l f (right p q o))
+  perform-keeps a d v (does l x m sh) o =
+      let e = entering m (assigning (a .result) l d) in
+      let c = withBuffers (handed sh (e .buffers)) e in
+      let y = actions (shown a e sh) in
+      let q = entering-record m (assigning (a .result) l d) in
+      let p = okShown sh (entered l m (of d)) in
+      let few = left (leb (length sh) 6 && p) _ o in
+      let six = leb→le (length sh) 6 (left (leb (length sh) 6) p few) in
+      let there : T (okShown sh (of e)) =
+      subst (λ z. T (okShown sh z)) (sym (entered-is (a .result) l m d)) (right (leb (length sh) 6) p few) in
+      let given =
+      hands a e sh (e .buffers) k (record { tx-of = λ y. refl; rx-of = λ y. refl }) there (subst (λ b. Match b k) (sym q) (v .inv .match)) in
+      let kept =
+      access-keeps (notes (shown a e sh) k) c given (handed-lengths sh (e .buffers) (subst Lengths (sym q) (v .inv .lengths)))
+      (handed-free sh (e .buffers) (ap freeToStart q ∙ v .free)) y a x
+      (subst (λ z. T (okAccess x (within 11 127 (a .result)) z)) (sym (prepared-is (a .result) l m sh d))
+      (right (leb (length sh) 6 && p) _ o)) in
+      let z = accessed x a y c in
+      subst (λ n. Inv (with-transfer z n) (z .driver))
+      (sym (ap (λ (w : Actions). notedAll (w .items) k) (every-access (λ (o : Outcome). o .reply .actions ≡ y) a y c (λ e t. refl) x)
+      ∙ filled 6 6 (shown a e sh) k (le-trans (fewer a e sh) six))) kept
 
--- a driver's fit, where nothing is under way
-pub at-rest : (k : Page) (d : Driver) → Inv k d → isIdle (d .buffers .under) ≡ true
-    → T (fit nothing (stateNo (d .state)) (isHeld (d .buffers .«tx_buf»)) (isHeld (d .buffers .«rx_buf»)) (flag transmitting (d .flags))
-    (flag interruptHandling (d .flags)))
-at-rest k d v i =
-    subst (λ u. T (fit (kind u) (stateNo (d .state)) (isHeld (d .buffers .«tx_buf»)) (isHeld (d .buffers .«rx_buf»))
-    (flag transmitting (d .flags)) (flag interruptHandling (d .flags))))
-    (under-idle (d .buffers .under) i) (v .fitted)
-
--- the invariant of a driver that differs in state and flags, from its fit at rest
-rested : (k : Page) (d : Driver) (e : Driver) → Inv k d → isIdle (d .buffers .under) ≡ true → e .buffers ≡ d .buffers
-    → T (fit nothing (stateNo (e .state)) (isHeld (d .buffers .«tx_buf»)) (isHeld (d .buffers .«rx_buf»)) (flag transmitting (e .flags))
-    (flag interruptHandling (e .flags)))
-    → Inv k e
-rested k d e v i q o =
-    record {
-      match = subst (λ b. Match b k) (sym q) (v .match);
-      fitted =
-          subst (λ b. T (fit (kind (b .under)) (stateNo (e .state)) (isHeld (b .«tx_buf»)) (isHeld (b .«rx_buf»))
-          (flag transmitting (e .flags)) (flag interruptHandling (e .flags)))) (sym q)
-          (subst (λ u. T (fit (kind u) (stateNo (e .state)) (isHeld (d .buffers .«tx_buf»)) (isHeld (d .buffers .«rx_buf»))
-          (flag transmitting (e .flags)) (flag interruptHandling (e .flags)))) (sym (under-idle (d .buffers .under) i)) o);
-      lengths = subst Lengths (sym q) (v .lengths);
-    }
-
--- a register transfer is asked for while nothing is under way
-pub asks : (k : Page) (d : Driver) → Inv k d → isIdle (d .buffers .under) ≡ true → (e : Driver) → e .buffers ≡ d .buffers → (n x y : ℕ)
-    → kindOf n ≡ 1 → eqb n 0 ≡ false
-    → T (fit access (stateNo (e .state)) (isHeld (d .buffers .«tx_buf»)) (isHeld (d .buffers .«rx_buf»)) (flag transmitting (e .flags))
-    (flag interruptHandling (e .flags)))
-    → After k (stepOf (registerTransfer n x y e) (actions []))
-asks k d v i e q n x y z w o =
-    let begun =
-    register-keeps (record { status = 0; result = 0; length = 0 }) e k (subst (λ b. Match b k) (sym q) (v .match))
-    (subst Lengths (sym q) (v .lengths))
-    (ap (λ b. isIdle (b .under)) q ∙ i) n x y z w
-    (subst (λ b. T (fit access (stateNo (e .state)) (isHeld (b .«tx_buf»)) (isHeld (b .«rx_buf»)) (flag transmitting (e .flags))
-    (flag interruptHandling (e .flags)))) (sym q) o) in
-    record {
-      inv = begun .inv;
-      spans = begun .spans;
-      shows = tt;
-    }
-
-module _ (k : Page) (a : Arrived) where
-  own-keeps : (d : Driver) → Inv k d → isIdle (d .buffers .under) ≡ true → After k (ownCase a d)
+  own-keeps : (a : Arrived) (d : Driver) → Rest k d → After k (ownCase a d)
   unfolding caseOf
-  own-keeps d v i =
-      let o = at-rest k d v i in
-      perform-keeps k d a v i (is-false (flag interruptHandling (d .flags)) (not-handling .gives nothing _ _ _ _ _ o tt))
-      (eval (treeAt (stateNo (d .state))) a d)
-      (subst (λ f. T (okRow (stateNo (d .state)) (isHeld (d .buffers .«tx_buf»)) (isHeld (d .buffers .«rx_buf»))
-      (flag transmitting (d .flags)) f (eval (treeAt (stateNo (d .state))) a d)))
-      (length-known a d) (row-fits a d _ _ _ _ o))
+  own-keeps a d v =
+      let r = eval (treeAt (stateNo (d .state))) a d in
+      perform-keeps a d v r (subst (λ f. T (okRow f (of d) r)) (length-known a d) (row-fits a d (v .inv .fitted) (rests d v)))
+
+  -- a firing
+  pub fires : (d : Driver) → Rest k d → After k (handleInterrupt d)
+  unfolding handleInterrupt
+  fires d v =
+      let o = v .inv .fitted in
+      branch (After k) _ _ _
+      (λ y. branch (After k) _ _ _
+      (λ z. asks d (withState «RX_TURNING_OFF» d) v refl 2 _ _ refl refl (to-60 .gives (of d) o (rests d v) tt))
+      (λ z. asks d (flagged interruptHandling true d) v refl 1 _ _ refl refl (to-handling .gives (of d) o (rests d v) tt)))
+      (λ y. absurd (subst (λ t. T (not t)) (v .free) y))
 
   -- a waiting commit: the first write begins, and the state is 46
-  falls-keeps : (d : Driver) (x y : ℕ) → Inv k d → isIdle (d .buffers .under) ≡ true
-      → After k (fallsOn (stepOf (registerTransfer 2 x y (withState «CONFIG_SHORT0_SET» d)) (actions []))
-      (ownCase a (registerTransfer 2 x y (withState «CONFIG_SHORT0_SET» d) .driver)))
+  commits : (a : Arrived) (d : Driver) → Rest k d → After k (fallsOn (commits-first d) (ownCase a (commits-first d .driver)))
   unfolding caseOf treeAt trees eval perform registerTransfer pick
-  falls-keeps d x y v i =
-      subst (λ st. After k (fallsOn (stepOf st (actions [])) (ownCase a (st .driver))))
-      (sym (register-begins k (withState «CONFIG_SHORT0_SET» d) (v .match) i 2 x y))
+  commits a d v =
+      let e = withState «CONFIG_SHORT0_SET» d in
+      subst (λ s. After k (fallsOn (stepOf s (actions [])) (ownCase a (s .driver))))
+      (sym (register-begins k e (v .inv .match) (v .inv .lengths) (v .free) 2 _ _))
       (record {
-        inv = record {
-          match = begins-register (d .buffers) k (v .match) 2 refl i;
-          fitted = to-46 .gives nothing _ _ _ _ _ (at-rest k d v i) tt;
-          lengths = lengths-register (d .buffers) (v .lengths);
-        };
-        spans = tt;
-        shows = tt;
+        match = begins (d .buffers) k (v .inv .match) Register 2 tt refl (v .free);
+        fitted = to-46 .gives (of d) (v .inv .fitted) (rests d v) tt;
+        lengths = lengths-register (d .buffers) (v .inv .lengths);
       })
 
-  commit-keeps : (d : Driver) → Inv k d → isIdle (d .buffers .under) ≡ true → After k (waitingCommit a d)
-  unfolding waitingCommit
-  commit-keeps d v i = branch (After k) _ _ _ (λ y. falls-keeps d _ _ v i) (λ y. own-keeps d v i)
+  -- the steps in which a completion ends
+  pub ends : Ends (After k) (Rest k)
+  ends =
+      record {
+        fires = fires;
+        sends = λ d v s. asks d (withState «TX_STATUS_PRECHECK1» d) v refl 1 _ _ refl refl (to-33 .gives (of d) (v .inv .fitted) (rests d v) s);
+        waits = λ d v. asks d (withState READY d) v refl 1 _ _ refl refl (to-29 .gives (of d) (v .inv .fitted) (rests d v) tt);
+        commits = commits;
+        case = own-keeps;
+      }
 
-  pub rest-handles : (d : Driver) → Inv k d → isIdle (d .buffers .under) ≡ true → After k (handleInterrupt d)
-  unfolding handleInterrupt
-  rest-handles d v i =
-      let o = at-rest k d v i in
-      branch (After k) _ _ _
-      (λ y. branch (After k) _ _ _
-      (λ z. asks k d v i (withState «RX_TURNING_OFF» d) refl 2 _ _ refl refl (to-60 .gives nothing _ _ _ _ _ o tt))
-      (λ z. asks k d v i (flagged interruptHandling true d) refl 1 _ _ refl refl (to-handling .gives nothing _ _ _ _ _ o tt)))
-      (λ y. absurd (subst (λ t. T (not t)) i y))
-
-  pending-keeps : (d : Driver) → Inv k d → isIdle (d .buffers .under) ≡ true → After k (pendingInterrupt a d)
-  unfolding pendingInterrupt
-  pending-keeps d v i =
-      branch (After k) _ _ _
-      (λ y. rest-handles (flagged interruptPending false d) (rested k d (flagged interruptPending false d) v i refl (at-rest k d v i)) i)
-      (λ y. commit-keeps d v i)
-
-  pub ready-keeps : (d : Driver) → Inv k d → isIdle (d .buffers .under) ≡ true → After k (readyBookkeeping a d)
-  unfolding readyBookkeeping
-  ready-keeps d v i =
-      branch (After k) _ _ _
-      (λ y. pending-keeps (nowOn d) (rested k d (nowOn d) v i refl (at-rest k d v i)) i)
-      (λ y. pending-keeps d v i)
-
-  frame-keeps : (d : Driver) → Inv k d → isIdle (d .buffers .under) ≡ true → After k (frameEnd a d)
-  unfolding frameEnd
-  frame-keeps d v i =
-      let o = at-rest k d v i in
-      let e = flagged receiving false d in
-      branch (After k) _ _ _
-      (λ y. branch (After k) _ _ _
-      (λ z. ready-keeps (withState «RX_START_READING» e)
-      (rested k d (withState «RX_START_READING» e) v i refl (to-62 .gives nothing _ _ _ _ _ o z)) i)
-      (λ z. branch (After k) _ _ _
-      (λ w. asks k d v i (withState «TX_STATUS_PRECHECK1» e) refl 1 _ _ refl refl (to-33 .gives nothing _ _ _ _ _ o w))
-      (λ w. asks k d v i (withState READY e) refl 1 _ _ refl refl (to-29 .gives nothing _ _ _ _ _ o tt))))
-      (λ y. ready-keeps d v i)
-
-  -- the state that the interrupt leads to
-  interrupt-fits : (s : InternalState) (t r q h : Bool) → T (fit nothing (stateNo s) t r q h)
-      → T (fit nothing (stateNo (interruptState a s)) t r q h)
+  -- where the interrupt's bits lead
+  moves : (a : Arrived) (d : Driver) → Rest k d → T (fit (of (withState (interruptState a (d .state)) d)))
   unfolding interruptState
-  interrupt-fits s t r q h o =
-      branch (λ z. T (fit nothing (stateNo z) t r q h)) _ _ _ (λ y. to-59 .gives nothing _ _ _ _ _ o tt)
-      (λ y. branch (λ z. T (fit nothing (stateNo z) t r q h)) _ _ _ (λ z. to-28 .gives nothing _ _ _ _ _ o (left (eqb (stateNo s) 27) _ z))
-      (λ z. branch (λ z. T (fit nothing (stateNo z) t r q h)) _ _ _ (λ w. to-42 .gives nothing _ _ _ _ _ o (left (eqb (stateNo s) 40) _ w))
-      (λ w. o)))
+  moves a d v =
+      let o = v .inv .fitted in
+      let P : InternalState → Type 0 = λ s. T (fit (of (withState s d))) in
+      branch P _ _ _ (λ y. to-59 .gives (of d) o (rests d v) tt)
+      (λ y. branch P _ _ _ (λ z. to-28 .gives (of d) o (rests d v) (left (eqb (stateNo (d .state)) 27) _ z))
+      (λ z. branch P _ _ _ (λ w. to-42 .gives (of d) o (rests d v) (left (eqb (stateNo (d .state)) 40) _ w)) (λ w. o)))
 
-  pub result-keeps : (d : Driver) → Inv k d → isIdle (d .buffers .under) ≡ true → After k (interruptResult a d)
-  unfolding interruptResult
-  result-keeps d v i =
-      let e = flagged receiving (rxStart a || flag receiving (d .flags)) (withState (interruptState a (d .state)) d) in
-      branch (After k) _ _ _ (λ y. ready-keeps d v i)
-      (λ y. frame-keeps e (rested k d e v i refl (interrupt-fits (d .state) _ _ _ _ (at-rest k d v i))) i)
+  -- the phases keep it
+  pub kept : Kept (Rest k)
+  kept =
+      record {
+        flags = λ f d s h v. rested d _ v refl (rw (s, h) (v .inv .fitted));
+        moves = λ a d v. rested d _ v refl (moves a d v);
+        reads = λ d h v. rested d _ v refl (to-62 .gives (of d) (v .inv .fitted) (rests d v) h);
+      }

@@ -15,21 +15,23 @@ use Rattle.rf233.specs.declared.driver.Under.{Under}
 use Rattle.rf233.specs.declared.driver.Under.the-variants.{Idle, Register, FrameRead, FrameWrite}
 use Rattle.laws.proofs.Logic.{left, right, is-true, is-false}
 use Rattle.custody.proofs.Custody.{Inv, Lengths}
-use Rattle.rf233.proofs.Fit.{kind, fit, frameOf, rx-empty, tx-empty, fit-frame, fit-places}
-use Rattle.rf233.proofs.Fit.Kind.{reading, writing}
+use Rattle.rf233.proofs.Facts.{kind, frameOf, of}
+use Rattle.rf233.proofs.Fit.{fit, rx-empty, tx-empty, fit-frame, fit-places}
 use Rattle.custody.proofs.Match.{once, somewhere}
 
 -- no buffer is held beside another of its kind under way
-pub besides-none : (b : Buffers) (n : ℕ) (s h : Bool) → T (fit (kind (b .under)) n (isHeld (b .«tx_buf»)) (isHeld (b .«rx_buf»)) s h)
-    → heldBesides b ≡ false
-besides-none b n s h o = go (b .under) o
+pub besides-none : (d : Driver) → T (fit (of d)) → heldBesides (d .buffers) ≡ false
+besides-none d o =
+    let t = isHeld (d .buffers .«tx_buf») in
+    let r = isHeld (d .buffers .«rx_buf») in
+    go (d .buffers .under) t r (λ z. is-false t (tx-empty .gives (of d) o tt z)) (λ z. is-false r (rx-empty .gives (of d) o tt z))
   where
-    go : (u : Under) → T (fit (kind u) n (isHeld (b .«tx_buf»)) (isHeld (b .«rx_buf»)) s h)
-        → ((isHeld (b .«tx_buf») && isHeld (rec.txUnderWay u)) || (isHeld (b .«rx_buf») && isHeld (rec.rxUnderWay u))) ≡ false
-    go Idle o = rw (and-false (isHeld (b .«tx_buf»)), and-false (isHeld (b .«rx_buf»)))
-    go Register o = rw (and-false (isHeld (b .«tx_buf»)), and-false (isHeld (b .«rx_buf»)))
-    go (FrameRead c l) o = rw (and-false (isHeld (b .«tx_buf»)), is-false (isHeld (b .«rx_buf»)) (rx-empty .gives reading _ _ _ _ _ o tt))
-    go (FrameWrite c l) o = rw (and-false (isHeld (b .«rx_buf»)), is-false (isHeld (b .«tx_buf»)) (tx-empty .gives writing _ _ _ _ _ o tt))
+    go : (u : Under) (t r : Bool) → (T (eqb (frameOf (kind u)) 2) → t ≡ false) → (T (eqb (frameOf (kind u)) 1) → r ≡ false)
+        → (t && isHeld (rec.txUnderWay u)) || (r && isHeld (rec.rxUnderWay u)) ≡ false
+    go Idle t r x y = rw (and-false t, and-false r)
+    go Register t r x y = rw (and-false t, and-false r)
+    go (FrameRead c l) t r x y = rw (and-false t, y tt)
+    go (FrameWrite c l) t r x y = rw (and-false r, x tt)
 
 lengths-good : (b : Buffers) → Lengths b → lengthBad b ≡ false
 lengths-good b g = rw (g .whole, g .present, g .tx, g .tx-under, g .rx, g .rx-under)
@@ -44,8 +46,8 @@ frame-no (FrameWrite c l) = refl
 pub sound : (k : Page) (d : Driver) → Inv k d → described d ≡ false
 unfolding described
 sound k d v =
-    let f = fit-frame .gives _ _ _ _ _ _ (v .fitted) tt in
-    let p = fit-places .gives _ _ _ _ _ _ (v .fitted) tt in
+    let f = fit-frame .gives (of d) (v .fitted) tt tt in
+    let p = fit-places .gives (of d) (v .fitted) tt tt in
     let n = stateNo (d .state) in
     let u = d .buffers .under in
     let e = eqb (frameOf (kind u)) (stateFrame n) in
@@ -55,7 +57,7 @@ sound k d v =
       somewhere (d .buffers) k (v .match),
       v .match .below,
       lengths-good (d .buffers) (v .lengths),
-      besides-none (d .buffers) n _ _ (v .fitted),
+      besides-none d (v .fitted),
       frame-no u,
       is-true e (left e (not h) f),
       is-false h (right e (not h) f),

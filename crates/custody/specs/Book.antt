@@ -1,11 +1,12 @@
 -- Document 01, "The book of custody": fed with each call's arguments, answer, actions and transfer, never with the driver's record. A
 -- fault stays once found; what is found faulty is entered all the same, so that there is nothing to choose.
-use Prim.Native.Nat.{ℕ, _+_}
+use Prim.Native.Nat.{ℕ, zero, suc, _+_}
 use mathlib.Core.Bool.{Bool, true, false, not, _&&_, _||_, cond}
 use mathlib.Core.List.{List, [], _∷_, _++_}
-use lib.Dec.{eqb, ltb}
+use lib.Dec.{eqb, leb, ltb}
 use lib.ListN.{getD, set, replicate}
 use Rattle.rf233.specs.Answer.{answerNo}
+use Rattle.rf233.specs.Record.{one}
 use Rattle.rf233.specs.Place.{clientPlace, ownPlace, transmitPlace, receivePlace, transferPlace}
 use Rattle.rf233.specs.declared.action.Action.{Action}
 use Rattle.rf233.specs.declared.action.Action.the-variants as action
@@ -41,18 +42,41 @@ pub data Fed : Type 0 where
 abbrev pub missing : ℕ → ℕ → List ℕ → Bool
 missing b p l = ltb 18 b || not (eqb (getD l b clientPlace) p)
 
--- `transmit` or receive buffer: from the client to the transmit or receive place; accepted + 1
+-- the place that a transfer of a kind takes the buffer from that it sends
+abbrev pub writeFrom : ℕ → ℕ
+writeFrom k = cond (eqb k 4) transmitPlace ownPlace
+
+-- and the one that it reads into
+abbrev pub readFrom : ℕ → ℕ
+readFrom k = cond (eqb k 3) receivePlace ownPlace
+
+-- how many of the buffers below n are at place p
+unfoldable pub filled : ℕ → List ℕ → ℕ → ℕ
+filled p l zero = 0
+filled p l (suc n) = filled p l n + one (eqb (getD l n clientPlace) p)
+
+-- the buffers at a client's place, the one counted that the transfer under way took from there
+abbrev pub occupied : ℕ → Page → ℕ
+occupied p k = filled p (k .places) 19 + one (eqb (writeFrom (k .kind)) p || eqb (readFrom (k .kind)) p)
+
+-- how many buffers a place takes from the client: transmit 1, receive 1, any other none
+abbrev pub room : ℕ → ℕ
+room p = cond (eqb p transmitPlace) 1 (cond (eqb p receivePlace) 1 0)
+
+-- the place takes no more
+abbrev pub full : ℕ → Page → Bool
+full p k = leb (room p) (occupied p k)
+
+-- `transmit` or receive buffer: from the client to the transmit or receive place, which takes it; accepted + 1. No other entry adds to
+-- what is counted there, so only this one asks for room
 abbrev pub brought : ℕ → ℕ → Page → Page
 brought b p k =
     page (set (k .places) b p) (k .kind) (k .write) (k .read) (k .accepted + 1) (k .handed) (k .dropped)
-    (k .fault || missing b clientPlace (k .places))
+    (k .fault || (missing b clientPlace (k .places) || full p k))
 
--- where a transfer's two buffers go when it ends: own buffers to their own places, a frame write's other buffer to the transmit place, a
--- frame read's to the receive place
+-- when a transfer ends its two buffers go back to the places that a transfer of that kind takes them from
 abbrev pub endPlaces : ℕ → ℕ → ℕ → List ℕ → List ℕ
-endPlaces k w r l =
-    cond (eqb k 3) (set (set l w ownPlace) r receivePlace)
-    (cond (eqb k 4) (set (set l w transmitPlace) r ownPlace) (set (set l w ownPlace) r ownPlace))
+endPlaces k w r l = set (set l w (writeFrom k)) r (readFrom k)
 
 -- completion: the transfer ends; with none it cannot
 abbrev pub ended : Page → Page
@@ -98,14 +122,6 @@ abbrev pub notedAll : List Item → Page → Page
 notedAll [] k = k
 notedAll (x ∷ more) k = notedAll more (noted (x .action) k)
 
--- the place that a transfer of a kind takes the buffer from that it sends
-abbrev pub writeFrom : ℕ → ℕ
-writeFrom k = cond (eqb k 4) transmitPlace ownPlace
-
--- and the one that it reads into
-abbrev pub readFrom : ℕ → ℕ
-readFrom k = cond (eqb k 3) receivePlace ownPlace
-
 -- it names the right own buffers: 16 and 17 (register), 18 (frame)
 abbrev pub namesOwn : ℕ → ℕ → ℕ → Bool
 namesOwn k w r = cond (eqb k 3) (eqb w 18) (cond (eqb k 4) (eqb r 18) (eqb w 16 && eqb r 17))
@@ -121,11 +137,36 @@ taken n w r k =
 abbrev pub begun : ℕ → ℕ → ℕ → Page → Page
 begun n w r k = cond (eqb n 0) k (taken n w r k)
 
+-- an action that is not `Nothing`
+abbrev pub isAct : Action → Bool
+isAct action.Nothing = false
+isAct (action.Power v) = true
+isAct (action.Sent b a f) = true
+isAct (action.Received b l v) = true
+isAct action.ConfigDone = true
+isAct (action.Dropped b) = true
+isAct action.IrqMakeInput = true
+isAct action.IrqClear = true
+isAct action.IrqSetFloatingState = true
+isAct action.IrqEnableInterrupts = true
+isAct action.IrqDisableInterrupts = true
+isAct action.SleepMakeOutput = true
+isAct action.SleepSet = true
+isAct action.SleepClear = true
+isAct action.ResetMakeOutput = true
+isAct (action.ResetClear n) = true
+isAct action.ResetSet = true
+
+-- such an action is among them
+abbrev pub acts : List Item → Bool
+acts [] = false
+acts (x ∷ more) = isAct (x .action) || acts more
+
 -- refused: nothing changes; an action or a transfer given with it is a fault
 abbrev pub turnedDown : Reply → Page → Page
 turnedDown y k =
     page (k .places) (k .kind) (k .write) (k .read) (k .accepted) (k .handed) (k .dropped)
-    (k .fault || (ltb 0 (y .actions .count) || ltb 0 (y .transfer .kind)))
+    (k .fault || (acts (y .actions .items) || ltb 0 (y .transfer .kind)))
 
 -- a call and what it yielded, entered: the call, its actions, its transfer
 unfoldable pub entered : Fed → Reply → Page → Page

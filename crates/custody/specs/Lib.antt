@@ -1,4 +1,3 @@
 pub mod Book
 pub mod Claim
 pub mod BookCode
-pub mod Ranges

@@ -6,10 +6,14 @@ use rf233::answer::Reply;
 use rf233::answer::answer_number;
 use rf233::transfer::Transfer;
 ghost use mathlib.Core.Path.{_≡_};
+ghost use Prim.Native.Nat.{_≤_};
 ghost use lib.ListN.{getD, set};
 ghost use Rattle.custody.specs.Book.{
   newPage,
   missing,
+  filled,
+  room,
+  full,
   brought,
   endPlaces,
   ended,
@@ -22,11 +26,14 @@ ghost use Rattle.custody.specs.Book.{
   namesOwn,
   taken,
   begun,
+  isAct,
+  acts,
   turnedDown,
   entered,
 };
 ghost use Rattle.custody.specs.BookCode.{wrapped, pageOf, fedOf};
 ghost use Rattle.rf233.specs.Place.{clientPlace};
+ghost use Rattle.rf233.specs.Record.{one};
 
 // The 19 buffers' places (0 with the client, 1 its own, 2 transmit, 3 receive, 4 the transfer under way); the transfer under way by its
 // kind (0 none) and its two buffers; the counts; whether a fault was found.
@@ -93,31 +100,85 @@ fn put_at(places: [u8; 19], buffer: u8, place: u8) -> [u8; 19]
     next
 }
 
-// The client brings a buffer to a place.
+// The place that a transfer of a kind takes the buffer from that it sends: transmit for a frame write, else the driver's own.
+fn write_from(kind: u8) -> u8
+    ensures { λ r. ⌜ r ≡ writeFrom kind ⌝ }
+{
+    if kind == 4 { 2 } else { 1 }
+}
+
+// The place of the buffer that it reads into: receive for a frame read, else the driver's own.
+fn read_from(kind: u8) -> u8
+    ensures { λ r. ⌜ r ≡ readFrom kind ⌝ }
+{
+    if kind == 3 { 3 } else { 1 }
+}
+
+// 1 where the test holds.
+fn one_if(test: bool) -> u8
+    ensures { λ r. ⌜ (r ≡ one test) × (r ≤ 1) ⌝ }
+{
+    if test { 1 } else { 0 }
+}
+
+// How many of the 19 buffers are at the place.
+fn count_at(places: [u8; 19], place: u8) -> u8
+    ensures { λ r. ⌜ r ≡ filled place places 19 ⌝ }
+{
+    let mut count: u8 = 0;
+    let mut i = 0;
+    while i < 19 {
+        count += one_if(places[i] == place);
+        i += 1;
+    }
+    count
+}
+
+// How many buffers a place takes from the client: the transmit place one, the receive place one.
+fn room_of(place: u8) -> u8
+    ensures { λ r. ⌜ r ≡ room place ⌝ }
+{
+    match place {
+        2 => 1,
+        3 => 1,
+        _ => 0,
+    }
+}
+
+// The client's place takes no more, the buffer counted that the transfer under way took from there.
+fn is_full(book: Book, place: u8) -> bool
+    ensures { λ r. ⌜ r ≡ full place (pageOf book) ⌝ }
+{
+    let places = book.places;
+    let there = count_at(places, place);
+    let taken = one_if((write_from(book.kind) == place) | (read_from(book.kind) == place));
+    room_of(place) <= there + taken
+}
+
+// The client brings a buffer to a place, where there is room for it.
 fn bring(book: Book, buffer: u8, place: u8) -> Book
     ensures { λ r. ⌜ pageOf r ≡ wrapped (brought buffer place (pageOf book)) ⌝ }
 {
     let mut next = book;
     let before = book.places;
     let wrong = is_missing(before, buffer, 0);
+    let full = is_full(book, place);
     let places = put_at(before, buffer, place);
     next.places = places;
     next.accepted = std::num::wrapping_add_u64(book.accepted, 1);
-    next.fault = book.fault | wrong;
+    next.fault = book.fault | (wrong | full);
     next
 }
 
-// Where the two buffers of a transfer that ends go.
+// Where the two buffers of a transfer that ends go: back to the places that a transfer of its kind takes them from.
 fn end_places(places: [u8; 19], kind: u8, write: u8, read: u8) -> [u8; 19]
     ensures { λ r. ⌜ r ≡ endPlaces kind write read places ⌝ }
 {
-    if kind == 3 {
-        return put_at(put_at(places, write, 1), read, 3);
-    }
-    if kind == 4 {
-        return put_at(put_at(places, write, 2), read, 1);
-    }
-    put_at(put_at(places, write, 1), read, 1)
+    put_at(
+        put_at(places, write, write_from(kind)),
+        read,
+        read_from(kind),
+    )
 }
 
 // The transfer under way ends. With none it cannot.
@@ -224,20 +285,6 @@ fn names_own(kind: u8, write: u8, read: u8) -> bool
     (write == 16) & (read == 17)
 }
 
-// The places that a transfer of a kind takes its two buffers from.
-fn write_from(kind: u8) -> u8
-    ensures { λ r. ⌜ r ≡ writeFrom kind ⌝ }
-{
-    if kind == 4 { 2 } else { 1 }
-}
-
-// The place of the buffer that is read into: receive for a frame read, else the driver's own.
-fn read_from(kind: u8) -> u8
-    ensures { λ r. ⌜ r ≡ readFrom kind ⌝ }
-{
-    if kind == 3 { 3 } else { 1 }
-}
-
 // The transfer takes its two buffers from where they are to be.
 fn take_buffers(book: Book, kind: u8, write: u8, read: u8) -> Book
     ensures { λ r. ⌜ pageOf r ≡ wrapped (taken kind write read (pageOf book)) ⌝ }
@@ -266,14 +313,40 @@ fn enter_transfer(book: Book, transfer: Transfer) -> Book
     take_buffers(book, transfer.kind, transfer.write, transfer.read)
 }
 
+// The element holds an action that is not `Nothing`.
+fn is_act(item: Item) -> bool
+    ensures { λ r. ⌜ r ≡ isAct (item .action) ⌝ }
+{
+    let action = item.action;
+    match action {
+        Action::Nothing => false,
+        _ => true,
+    }
+}
+
+// Such an action is among the six.
+fn any_act(actions: Actions) -> bool
+    ensures { λ r. ⌜ r ≡ acts (actions .items) ⌝ }
+{
+    let items = actions.items;
+    let one = is_act(items[0]);
+    let two = is_act(items[1]);
+    let three = is_act(items[2]);
+    let four = is_act(items[3]);
+    let five = is_act(items[4]);
+    one | (two | (three | (four | (five | is_act(items[5])))))
+}
+
 // A refused call changes nothing, and comes with nothing.
 fn turn_down(book: Book, reply: Reply) -> Book
     ensures { λ r. ⌜ pageOf r ≡ wrapped (turnedDown reply (pageOf book)) ⌝ }
 {
     let actions = reply.actions;
     let transfer = reply.transfer;
+    let started = 0 < transfer.kind;
+    let acted = any_act(actions);
     let mut next = book;
-    next.fault = book.fault | ((0 < actions.count) | (0 < transfer.kind));
+    next.fault = book.fault | (acted | started);
     next
 }
 

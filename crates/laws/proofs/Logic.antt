@@ -1,4 +1,5 @@
--- General laws of Booleans: of tests that are joined, and of a test that is computed over all Booleans or all numbers below n.
+-- General laws of Booleans: of tests that are joined, of tests that are grouped otherwise, and of a test that is computed over all
+-- Booleans or all numbers below n.
 -- Assumes nothing.
 use Prim.Native.Nat.{ℕ, zero, suc, _<_}
 use mathlib.Core.Path.{_≡_, refl, sym, subst}
@@ -132,3 +133,41 @@ below-at f (suc n) t s h = go (eqb s n) refl (below-at f n (right (f n) (all-bel
     go : (e : Bool) → eqb s n ≡ e → (s < n → T (f s)) → T (f s)
     go true e r = subst (λ x. T (f x)) (sym (eqb-true s n e)) (left (f n) (all-below f n) t)
     go false e r = r (omega (arith, eqb-false s n e))
+
+-- ---- tests joined by "or", in whatever order and grouping
+
+-- the test of a number, or one of two
+pub data Tests : Type 0 where
+  test : ℕ → Tests
+  either : Tests → Tests → Tests
+
+-- where the test of number n is f n
+abbrev pub passed : (ℕ → Bool) → Tests → Bool
+passed f (test n) = f n
+passed f (either x y) = passed f x || passed f y
+
+-- the test of number n is among them
+abbrev pub has : ℕ → Tests → Bool
+has n (test m) = eqb n m
+has n (either x y) = has n x || has n y
+
+-- the tests of x are among those of y
+abbrev pub among : Tests → Tests → Bool
+among (test n) y = has n y
+among (either x z) y = among x y && among z y
+
+has-passes : (f : ℕ → Bool) (n : ℕ) (y : Tests) → T (has n y) → T (f n) → T (passed f y)
+has-passes f n (test m) h t = subst (λ k. T (f k)) (eqb-true n m (is-true (eqb n m) h)) t
+has-passes f n (either x y) h t =
+    or-case (has n x) (has n y) h (λ i. or-left (passed f x) (passed f y) (has-passes f n x i t))
+    (λ i. or-right (passed f x) (passed f y) (has-passes f n y i t))
+
+among-passes : (f : ℕ → Bool) (x y : Tests) → T (among x y) → T (passed f x) → T (passed f y)
+among-passes f (test n) y a t = has-passes f n y a t
+among-passes f (either x z) y a t =
+    or-case (passed f x) (passed f z) t (λ i. among-passes f x y (left (among x y) (among z y) a) i)
+    (λ i. among-passes f z y (right (among x y) (among z y) a) i)
+
+-- the same tests, however they are grouped: computed
+pub regrouped : (f : ℕ → Bool) (x y : Tests) → T (among x y) → T (among y x) → passed f x ≡ passed f y
+regrouped f x y a b = both-ways (passed f x) (passed f y) (among-passes f x y a) (among-passes f y x b)

@@ -1,11 +1,12 @@
 -- What an accepted and a refused event leave: an accepted completion is the step `completed` on the copied bytes, an accepted firing is
 -- `handleInterrupt`, and a refused event leaves the driver as it was. From this: a step's own answer is always done. Assumes nothing.
 use mathlib.Core.Path.{_≡_, refl, sym, ap, _∙_}
-use mathlib.Core.Bool.{Bool, true, false}
+use mathlib.Core.Bool.{Bool, true, false, not}
+use borrow.Author.Tests.{not-false}
 use mathlib.Core.List.{List}
 use Prim.Native.Nat.{ℕ}
 use lib.Dec.{eqb}
-use Rattle.rf233.proofs.EveryStep.{OfSteps, every-firing, every-completion}
+use Rattle.rf233.proofs.EveryStep.{OfSteps, every-firing, every-completion, every-access}
 use Rattle.rf233.proofs.ChoiceLaws.{either}
 use Rattle.rf233.specs.Answer.{answerNo}
 use Rattle.rf233.specs.Guard.{Called, poolFault}
@@ -19,7 +20,7 @@ use Rattle.rf233.specs.Pool.{copied, readBuffer}
 use Rattle.rf233.specs.Rows.{Row, eval}
 use Rattle.rf233.specs.Rows.Row.{does}
 use Rattle.rf233.specs.StartupClaim.{after, accepted}
-use Rattle.rf233.specs.Transfer.{isIdle}
+use Rattle.rf233.specs.Transfer.{toComplete}
 use Rattle.rf233.specs.declared.answer.Answer.the-variants.{Done}
 use Rattle.rf233.specs.declared.answer.Outcome.{Outcome}
 use Rattle.rf233.specs.declared.arrived.Arrived.{Arrived}
@@ -32,7 +33,7 @@ IsDone o = o .reply .answer ≡ Done
 
 done-perform : (r : Row) (a : Arrived) (d : Driver) → IsDone (perform r a d)
 unfolding perform
-done-perform (does l x n s) a d = refl
+done-perform (does l x n s) a d = every-access IsDone a _ _ (λ e t. refl) x
 
 done-own : (a : Arrived) (d : Driver) → IsDone (ownCase a d)
 unfolding caseOf
@@ -67,20 +68,21 @@ pub completion-accepted : (d : Driver) (xs p : List ℕ) → accepted (completio
 unfolding completionCall completing
 completion-accepted d xs p e =
     let e₁ = past (poolFault d p) _ _ refl e in
-    let e₂ = past (isIdle (d .buffers .under)) _ _ refl (ap accepted (sym e₁) ∙ e) in
+    let e₂ = past (not (toComplete (d .buffers))) _ _ refl (ap accepted (sym e₁) ∙ e) in
     let e₃ = past (arrivedBad xs (d .buffers)) _ _ refl (ap accepted (sym e₂) ∙ (ap accepted (sym e₁) ∙ e)) in
     ap after (e₁ ∙ (e₂ ∙ e₃))
 
--- a completion that is accepted had a transfer under way
+-- a completion that is accepted had a transfer to complete
 not-refused : (t : Bool) (r s : Called) → accepted r ≡ false → accepted (pick t r s) ≡ true → t ≡ false
 unfolding pick
 not-refused true r s e a = clash (accepted r) e a
 not-refused false r s e a = refl
 
-pub had-transfer : (d : Driver) (xs p : List ℕ) → accepted (completionCall d xs p) ≡ true → isIdle (d .buffers .under) ≡ false
+pub had-transfer : (d : Driver) (xs p : List ℕ) → accepted (completionCall d xs p) ≡ true → toComplete (d .buffers) ≡ true
 unfolding completionCall
 had-transfer d xs p e =
-    not-refused (isIdle (d .buffers .under)) _ _ refl (ap accepted (sym (past (poolFault d p) _ _ refl e)) ∙ e)
+    not-false (toComplete (d .buffers))
+    (not-refused (not (toComplete (d .buffers))) _ _ refl (ap accepted (sym (past (poolFault d p) _ _ refl e)) ∙ e))
 
 -- a refused event leaves the driver as it was
 abbrev Unaltered : Driver → Called → Type 0
@@ -98,6 +100,6 @@ pub completion-refused : (d : Driver) (xs p : List ℕ) → Unaltered d (complet
 unfolding completionCall completing
 completion-refused d xs p =
     either (Unaltered d) (poolFault d p) _ _ (λ e. refl)
-    (either (Unaltered d) (isIdle (d .buffers .under)) _ _ (λ e. refl)
+    (either (Unaltered d) (not (toComplete (d .buffers))) _ _ (λ e. refl)
     (either (Unaltered d) (arrivedBad xs (d .buffers)) _ _ (λ e. refl)
     (λ e. clash _ e (done-is-accepted (completed _ d) (done-completed _ d)))))

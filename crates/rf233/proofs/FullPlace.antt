@@ -3,7 +3,7 @@
 -- `bufferIn Empty`, and no frame transfer lacks its buffer. From one test over the rows of all states (`rows-take`), and one over states
 -- and kinds of transfer for the return of the buffers (`return-keeps`). Assumes nothing.
 use Prim.Native.Nat.{ℕ}
-use mathlib.Core.Path.{_≡_, refl}
+use mathlib.Core.Path.{_≡_, refl, sym, subst}
 use mathlib.Core.Bool.{Bool, true, false, not, _&&_, _||_}
 use mathlib.Core.List.{List, [], _∷_}
 use lib.Dec.{T, eqb, ltb}
@@ -53,8 +53,9 @@ use Rattle.rf233.specs.declared.driver.Under.{Under}
 use Rattle.rf233.specs.declared.driver.Under.the-variants.{Idle, Register, FrameRead, FrameWrite}
 use Rattle.rf233.specs.declared.state.InternalState.{InternalState}
 use Rattle.rf233.proofs.ChoiceLaws.{either}
-use Rattle.rf233.proofs.EveryStep.{OfSteps, Kept, completion-by}
-use Rattle.rf233.proofs.Fit.{Kind, kind, frameOf, doneNo, done-no, all-kinds, kind-at}
+use Rattle.rf233.proofs.EveryStep.{OfSteps, Kept, silent-ends, completion-by}
+use Rattle.rf233.proofs.Facts.{Facts, kind, frameOf, of, back, over-is}
+use Rattle.rf233.proofs.Fit.{framed, any, all-facts, facts-at}
 use Rattle.rf233.proofs.Keys.{state-below}
 
 -- what a row takes: from the transmit place by a sent or dropped buffer or a frame write, from the receive place by a received buffer or a
@@ -168,52 +169,30 @@ kept : Kept Holds
 unfolding interruptState
 kept =
     record {
-      flags = λ f d h. h;
-      commits = λ d e. rw e tt;
+      flags = λ f d s t h. h;
       moves = λ a d h.
           let H : InternalState → Type 0 = λ s. T (not (bufferMissing (d .buffers) (stateNo s))) in
           either H _ _ _ tt (either H _ _ _ tt (either H _ _ _ tt h));
       reads = λ d f h. rw (is-true (isHeld (d .buffers .«rx_buf»)) f) tt;
     }
 
--- the return of the buffers: by the kind of transfer, the state's number, whether the places are full, and whether an interrupt is handled
-abbrev returnTest : Kind → ℕ → Bool → Bool → Bool → Bool
-returnTest k n t r h =
-    imp (eqb (frameOf k) (stateFrame n) && not (ltb 0 (frameOf k) && h))
-    (imp (not (missing n t r)) (not (missing (doneNo h n) (eqb (frameOf k) 2 || t) (eqb (frameOf k) 1 || r))))
+-- the return of the buffers: where nothing is missing, and the state names the frame transfer and no interrupt is handled during one,
+-- nothing is missing once they are back
+abbrev gone : Facts → Bool
+gone c = missing (c .state) (c .tx) (c .rx)
 
-abbrev returnsAt : ℕ → Bool
-returnsAt n = all-kinds λ k. all λ t. all λ r. all λ h. returnTest k n t r h
+abbrev returnTest : Facts → Bool
+returnTest c = imp (not (ltb 0 (frameOf (c .transfer)) && c .handles)) (imp (not (gone c)) (not (gone (back c))))
 
 -- THE TEST OF THE RETURN
-return-keeps : T (all-below returnsAt 69)
+return-keeps : T (all-below (all-facts any returnTest) 69)
 return-keeps = tt
-
-returned : (k : Kind) (s : InternalState) (t r h : Bool) → T (returnTest k (stateNo s) t r h)
-returned k s t r h =
-    let n = stateNo s in
-    all-at (returnTest k n t r)
-    (all-at (λ r. all λ h. returnTest k n t r h)
-    (all-at (λ t. all λ r. all λ h. returnTest k n t r h)
-    (kind-at (λ k. all λ t. all λ r. all λ h. returnTest k n t r h) (below-at returnsAt 69 return-keeps n (state-below s)) k) t) r) h
 
 frame-number : (u : Under) → frameOf (kind u) ≡ frameNo u
 frame-number Idle = refl
 frame-number Register = refl
 frame-number (FrameRead c l) = refl
 frame-number (FrameWrite c l) = refl
-
-tx-back : (u : Under) (b : Buffers) → isHeld (buffersBack u b .«tx_buf») ≡ eqb (frameOf (kind u)) 2 || isHeld (b .«tx_buf»)
-tx-back Idle b = refl
-tx-back Register b = refl
-tx-back (FrameRead c l) b = refl
-tx-back (FrameWrite c l) b = refl
-
-rx-back : (u : Under) (b : Buffers) → isHeld (buffersBack u b .«rx_buf») ≡ eqb (frameOf (kind u)) 1 || isHeld (b .«rx_buf»)
-rx-back Idle b = refl
-rx-back Register b = refl
-rx-back (FrameRead c l) b = refl
-rx-back (FrameWrite c l) b = refl
 
 -- two clauses of refusal 12
 module _ (d : Driver) (e : described d ≡ false) where
@@ -232,25 +211,28 @@ module _ (d : Driver) (e : described d ≡ false) where
       none-right (heldBesides b) _
       (none-right (lengthBad b) _ (none-right (clientAbove b) _ (none-right (ownNowhere b) _ (none-right (recordedTwice b) _ e))))
 
-  fits : T (eqb (frameOf (kind (b .under))) (stateFrame n) && not (ltb 0 (frameOf (kind (b .under))) && h))
-  fits =
-      let unfit = none-left (frameUnfit (b .under) n h) (bufferMissing b n) last-clauses in
-      let f = eqb (frameNo (b .under)) (stateFrame n) in
-      let with-frame = ltb 0 (frameNo (b .under)) && h in
-      rw (frame-number (b .under), not-false f (none-left (not f) with-frame unfit), none-right (not f) with-frame unfit) tt
+  unfit : frameUnfit (b .under) n h ≡ false
+  unfit = none-left (frameUnfit (b .under) n h) (bufferMissing b n) last-clauses
+
+  names : eqb (frameNo (b .under)) (stateFrame n) ≡ true
+  names = not-false (eqb (frameNo (b .under)) (stateFrame n)) (none-left (not (eqb (frameNo (b .under)) (stateFrame n))) _ unfit)
 
   over : Holds (transferOver d)
   over =
-      let t = isHeld (b .«tx_buf») in
-      let r = isHeld (b .«rx_buf») in
-      let k = kind (b .under) in
-      let found : T (not (missing n t r)) = rw (none-right (frameUnfit (b .under) n h) (bufferMissing b n) last-clauses) tt in
-      rw (done-no h (d .state), tx-back (b .under) b, rx-back (b .under) b)
-      (apply (not (missing n t r)) (not (missing (doneNo h n) (eqb (frameOf k) 2 || t) (eqb (frameOf k) 1 || r)))
-      (apply (eqb (frameOf k) (stateFrame n) && not (ltb 0 (frameOf k) && h)) _ (returned k (d .state) t r h) fits) found)
+      let c = of d in
+      let with-frame = ltb 0 (frameNo (b .under)) && h in
+      let found : T (not (gone c)) = rw (none-right (frameUnfit (b .under) n h) (bufferMissing b n) last-clauses) tt in
+      let framed-so : T (framed c) = rw (frame-number (b .under), names) tt in
+      let clear : T (not (ltb 0 (frameOf (kind (b .under))) && h)) =
+      rw (frame-number (b .under), none-right (not (eqb (frameNo (b .under)) (stateFrame n))) with-frame unfit) tt in
+      subst (λ c. T (not (gone c))) (sym (over-is d))
+      (apply (not (gone c)) (not (gone (back c)))
+      (apply (not (ltb 0 (frameOf (kind (b .under))) && h)) _
+      (facts-at any returnTest return-keeps c (state-below (d .state)) tt framed-so) clear) found)
 
 -- whatever holds of steps that carry no row out, and of a row carried out with its places full, holds of every completion of a driver value
 -- that 12 does not describe
 pub unwrap-holds : (P : Outcome → Type 0) → OfSteps P → ((a : Arrived) (d : Driver) → Full (rowOf a d) d → P (ownCase a d))
     → (a : Arrived) (d : Driver) → described d ≡ false → P (completed a d)
-unwrap-holds P of row a d e = completion-by P of Holds kept (λ a d h. row a d (full a d h)) a d (over d e)
+unwrap-holds P of row a d e =
+    completion-by P Holds kept (silent-ends P of Holds (λ d e. rw e tt) (λ a d h. row a d (full a d h))) a d (over d e)

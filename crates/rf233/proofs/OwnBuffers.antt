@@ -7,12 +7,13 @@ use Prim.Native.Nat.{ℕ, _≤_, _<_}
 use native.Mathlib.Omega.{arith}
 use lib.Dec.{leb, ltb, lit<}
 use borrow.Author.Tests.{ne-eqb, ltb-true, ltb-false, leb-true, le-leb, not-false}
-use Rattle.rf233.specs.Choice.{oneOf, within}
+use Rattle.rf233.specs.Choice.{pick, oneOf, within}
 use Rattle.rf233.specs.Create.{newDriver}
 use Rattle.rf233.specs.Described.{described, slotAbove, clientAbove, recordedTwice, ownNowhere, twiceBelow}
 use Rattle.rf233.specs.Record.{countOf, slotHas, underHas, ownHas, one, recordHas}
 use Rattle.rf233.specs.State.{stateNo, stateFrame}
-use Rattle.rf233.specs.Driver.{recordWith}
+use Rattle.rf233.specs.Starter.{buffersAway, refrains, registerTransfer}
+use Rattle.rf233.specs.Transfer.{freeToStart}
 use Rattle.rf233.specs.declared.driver.Buffers.{Buffers}
 use Rattle.rf233.specs.declared.driver.Driver.{Driver}
 use Rattle.rf233.specs.declared.driver.Slot.{Slot}
@@ -104,19 +105,14 @@ module _ (d : Driver) (f : described d ≡ false) where
 
   -- while a register transfer is under way, the record with another one under way is the same
   pub same-record : (x : Buffers) → d .buffers .under ≡ Register
-      → x ≡ recordWith false false (d .buffers .«spi_buf») (d .buffers .«spi_buf_len») (d .buffers .«tx_buf») (d .buffers .«rx_buf»)
-      Register (d .buffers) → x ≡ d .buffers
+      → x ≡ buffersAway Register (d .buffers) → x ≡ d .buffers
   same-record x u e =
       let b = d .buffers in
       let t = sym (only-16 (b .«spi_tx») (b .«spi_rx») (b .«spi_buf»)) ∙ away b 16
       (none-right (twiceBelow b 16) _ (none-left (twiceBelow b 17) _ (none-left (twiceBelow b 18) _ twice))) (rw u) in
       let r = sym (only-17 (b .«spi_tx») (b .«spi_rx») (b .«spi_buf»)) ∙ away b 17
       (none-right (twiceBelow b 17) _ (none-left (twiceBelow b 18) _ twice)) (rw u) in
-      e
-      ∙ (ap (λ (x : Bool). recordWith x false (b .«spi_buf») (b .«spi_buf_len») (b .«tx_buf») (b .«rx_buf») Register b) (sym t)
-      ∙ (ap (λ (x : Bool). recordWith (b .«spi_tx») x (b .«spi_buf») (b .«spi_buf_len») (b .«tx_buf») (b .«rx_buf») Register b) (sym r)
-      ∙ ap (λ (x : Under). recordWith (b .«spi_tx») (b .«spi_rx») (b .«spi_buf») (b .«spi_buf_len») (b .«tx_buf») (b .«rx_buf») x b)
-      (sym u)))
+      e ∙ rw (t, r, u)
 
   -- a frame read leaves the buffers of a register transfer at home
   pub frame-home : (b l : ℕ) → d .buffers .under ≡ FrameRead b l → (d .buffers .«spi_tx» ≡ true) × (d .buffers .«spi_rx» ≡ true)
@@ -125,6 +121,11 @@ module _ (d : Driver) (f : described d ≡ false) where
       let e = none-right (slotAbove (r .«rx_buf»)) _ (none-right (slotAbove (r .«tx_buf»)) _ above) in
       let c = ltb-false 15 b (rw u at e) in
       (tx-home (rw (u, ne-eqb b 16 (λ q. omega arith))), rx-home (rw (u, ne-eqb b 17 (λ q. omega arith))))
+
+-- where none may begin, a register transfer does not
+pub register-refrains : (d : Driver) (n x y : ℕ) → freeToStart (d .buffers) ≡ false → registerTransfer n x y d ≡ refrains d
+unfolding registerTransfer pick
+register-refrains d n x y i = rw i
 
 -- a state that names no frame transfer and takes no buffer
 pub record Plain (n : ℕ) : Type 0 where

@@ -1,12 +1,13 @@
--- What refusal 12 describes, place by place as `is_described` asks it instead of clause by clause: `regrouped`, from `uncounted`. Assumes
--- nothing.
+-- What refusal 12 describes, place by place as `is_described` asks it instead of clause by clause: `regrouped`, from `uncounted` and the
+-- law of tests that are grouped otherwise, which computes that the same tests are asked. Assumes nothing.
 use Prim.Native.Nat.{ℕ, _+_}
 use mathlib.Core.Path.{_≡_, refl, sym, _∙_}
-use mathlib.Core.Bool.{Bool, false, not, _&&_, _||_, and-false, or-true, or-false, or-assoc, or-comm}
+use mathlib.Core.Bool.{Bool, false, not, _&&_, _||_, and-false, or-true, or-false}
+use mathlib.Core.List.{List, [], _∷_}
 use lib.Dec.{eqb, ltb}
+use lib.ListN.{getD}
 use Rattle.rf233.specs.Record.{isHeld, txUnderWay, rxUnderWay}
 use Rattle.rf233.specs.State.{stateNo, stateFrame}
-use Rattle.rf233.proofs.Twice.{uncounted}
 use Rattle.rf233.specs.Described.{
   slotAbove,
   underSlot,
@@ -29,15 +30,20 @@ use Rattle.rf233.specs.declared.driver.Slot.{Slot}
 use Rattle.rf233.specs.declared.driver.Slot.the-variants.{Empty, Held}
 use Rattle.rf233.specs.declared.driver.Under.{Under}
 use Rattle.rf233.specs.declared.driver.Under.the-variants.{Idle, Register, FrameRead, FrameWrite}
-use Rattle.laws.proofs.Logic.{or-left-comm}
+use Rattle.rf233.proofs.Twice.{uncounted, pairs, meets-empty}
+use Rattle.laws.proofs.Logic as logic
+use Rattle.laws.proofs.Logic.{Tests}
+use Rattle.laws.proofs.Logic.Tests.{test, either}
 
-same-empty : (x : Slot) → sameBuffer x Empty ≡ false
-same-empty Empty = refl
-same-empty (Held c l) = refl
+-- the tests of a list by their places in it
+abbrev of : List Bool → ℕ → Bool
+of l n = getD l n false
 
--- a frame transfer's tests, from the clauses' order to the code's
-order : (a b c d : Bool) → a || (b || (c || d)) ≡ d || ((a || c) || b)
-order a b c d = simp (or-assoc, or-comm, or-left-comm)
+-- four tests of a frame transfer, in the clauses' order and in the code's
+in-order : (l : List Bool) → of l 0 || (of l 1 || (of l 2 || of l 3)) ≡ of l 3 || ((of l 0 || of l 2) || of l 1)
+in-order l =
+    logic.regrouped (of l) (either (test 0) (either (test 1) (either (test 2) (test 3))))
+    (either (test 3) (either (either (test 0) (test 2)) (test 1))) tt tt
 
 -- what the clauses ask of a frame transfer. That its client's buffer is held in the place of its own kind is asked already where any is.
 module _ (n : ℕ) (handling : Bool) where
@@ -45,24 +51,42 @@ module _ (n : ℕ) (handling : Bool) where
       || (txLengthBad (txUnderWay u) n || (rxLengthBad (rxUnderWay u)
       || (((isHeld tx && isHeld (txUnderWay u)) || (isHeld rx && isHeld (rxUnderWay u))) || (ltb 0 (frameNo u) && handling))))))
       ≡ frameBad u tx rx n handling
-  frame-asked Idle tx rx = simp (same-empty, and-false, or-false)
-  frame-asked Register tx rx = simp (same-empty, and-false, or-false)
+  frame-asked Idle tx rx = simp (meets-empty, and-false, or-false)
+  frame-asked Register tx rx = simp (meets-empty, and-false, or-false)
   frame-asked (FrameRead c l) tx Empty =
-      rw (and-false (isHeld tx)) (order (ltb 15 c) (sameBuffer tx (Held c l)) (not (within 129 160 l)) handling)
+      rw (and-false (isHeld tx))
+      (in-order (ltb 15 c ∷ sameBuffer tx (Held c l) ∷ not (within 129 160 l) ∷ handling ∷ []))
   frame-asked (FrameRead c l) tx (Held b m) = simp or-true
   frame-asked (FrameWrite c l) Empty rx =
-      rw (and-false (isHeld rx)) (order (ltb 15 c) (sameBuffer rx (Held c l)) (not (within 2 127 n && within (n + 3) 160 l)) handling)
+      rw (and-false (isHeld rx))
+      (in-order (ltb 15 c ∷ sameBuffer rx (Held c l) ∷ not (within 2 127 n && within (n + 3) 160 l) ∷ handling ∷ []))
   frame-asked (FrameWrite c l) (Held b m) rx = simp or-true
 
--- all the tests, from the clauses' order to the code's
-regroup : (a b c s t x o w p k l i j h f g m : Bool)
-    → (a || (b || c)) || ((s || (t || x)) || (o || ((w || (p || (k || (l || (i || j))))) || (h || ((f || g) || m)))))
-    ≡ w || (p || ((a || k) || ((b || i) || (s || ((o || (c || (t || (x || (l || (j || (h || g))))))) || (f || m))))))
-regroup a b c s t x o w p k l i j h f g m = simp (or-assoc, or-left-comm)
+-- all the tests, clause by clause and place by place; 0 to 16 are `tests` below
+abbrev byClause : Tests
+byClause =
+    either (either (test 2) (either (test 4) (test 8)))
+    (either (either (either (test 6) (test 9)) (test 10))
+    (either (test 7)
+    (either (either (test 0) (either (test 1) (either (test 3) (either (test 11) (either (test 5) (test 12))))))
+    (either (test 13) (either (either (test 15) (test 14)) (test 16))))))
+
+abbrev byPlace : Tests
+byPlace =
+    either (test 0) (either (test 1) (either (either (test 2) (test 3)) (either (either (test 4) (test 5)) (either (test 6)
+    (either (either (test 7)
+    (either (test 8) (either (test 9) (either (test 10) (either (test 11) (either (test 12) (either (test 13) (test 14))))))))
+    (either (test 15) (test 16)))))))
 
 module _ (d : Driver) where
   abbrev r : Buffers
   r = d .buffers
+
+  abbrev tx : Slot
+  tx = r .«tx_buf»
+
+  abbrev rx : Slot
+  rx = r .«rx_buf»
 
   abbrev going : Slot
   going = underSlot (r .under)
@@ -76,19 +100,21 @@ module _ (d : Driver) where
   abbrev handling : Bool
   handling = d .flags .«interrupt_handling»
 
+  -- spi_buf's two lengths; the places, held and under way; the transfer; the state
+  abbrev tests : List Bool
+  tests =
+      not (within 129 160 (r .«spi_buf_whole»)) ∷ not (within 2 (r .«spi_buf_whole») (r .«spi_buf_len»)) ∷ slotAbove tx
+      ∷ txLengthBad tx (r .«tx_len») ∷ slotAbove rx ∷ rxLengthBad rx ∷ sameBuffer tx rx ∷ ownWrong (r .under) r ∷ slotAbove going
+      ∷ sameBuffer tx going ∷ sameBuffer rx going ∷ txLengthBad (txUnderWay (r .under)) (r .«tx_len») ∷ rxLengthBad (rxUnderWay (r .under))
+      ∷ heldBesides r ∷ (ltb 0 (frameNo (r .under)) && handling) ∷ unfit ∷ missing ∷ []
+
   pub regrouped : not (within 129 160 (r .«spi_buf_whole»)) || (not (within 2 (r .«spi_buf_whole») (r .«spi_buf_len»))
-      || ((slotAbove (r .«tx_buf») || txLengthBad (r .«tx_buf») (r .«tx_len»))
-      || ((slotAbove (r .«rx_buf») || rxLengthBad (r .«rx_buf»)) || (sameBuffer (r .«tx_buf») (r .«rx_buf»)
-      || ((ownWrong (r .under) r || frameBad (r .under) (r .«tx_buf») (r .«rx_buf») (r .«tx_len») handling) || (unfit || missing))))))
+      || ((slotAbove tx || txLengthBad tx (r .«tx_len»)) || ((slotAbove rx || rxLengthBad rx) || (sameBuffer tx rx
+      || ((ownWrong (r .under) r || frameBad (r .under) tx rx (r .«tx_len») handling) || (unfit || missing))))))
       ≡ described d
   unfolding described
   regrouped =
-      let whole = not (within 129 160 (r .«spi_buf_whole»)) in
-      let present = not (within 2 (r .«spi_buf_whole») (r .«spi_buf_len»)) in
-      let at-frame = ltb 0 (frameNo (r .under)) && handling in
-      rw (← frame-asked (r .«tx_len») handling (r .under) (r .«tx_buf») (r .«rx_buf»))
-      (sym (uncounted r (lengthBad r || (heldBesides r || (frameUnfit (r .under) (stateNo (d .state)) handling || missing)))
-      ∙ regroup (slotAbove (r .«tx_buf»)) (slotAbove (r .«rx_buf»)) (slotAbove going) (sameBuffer (r .«tx_buf») (r .«rx_buf»))
-      (sameBuffer (r .«tx_buf») going) (sameBuffer (r .«rx_buf») going) (ownWrong (r .under) r) whole present
-      (txLengthBad (r .«tx_buf») (r .«tx_len»)) (txLengthBad (txUnderWay (r .under)) (r .«tx_len»)) (rxLengthBad (r .«rx_buf»))
-      (rxLengthBad (rxUnderWay (r .under))) (heldBesides r) unfit at-frame missing))
+      rw (← frame-asked (r .«tx_len») handling (r .under) tx rx)
+      (logic.regrouped (of tests) byPlace byClause tt tt
+      ∙ sym (uncounted r (lengthBad r || (heldBesides r || (frameUnfit (r .under) (stateNo (d .state)) handling || missing)))
+      ∙ rw (← pairs tx rx going)))

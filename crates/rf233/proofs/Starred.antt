@@ -13,7 +13,8 @@ use Rattle.rf233.specs.Action.{actions}
 use Rattle.rf233.specs.Step.{quiet}
 use Rattle.rf233.specs.Answer.{refused}
 use Rattle.rf233.specs.Guard.{Called, refusing}
-use Rattle.rf233.specs.Config.{startCall, commitCall, setPower, settingsOf, withSettings}
+use Rattle.rf233.specs.Config.{startCall, commitCall, setPower}
+use Rattle.rf233.specs.Driver.{withSettings, withTxPower}
 use Rattle.rf233.specs.Kernel.{completionCall, arrivedBad}
 use Rattle.rf233.specs.Data.{transmitCall}
 use Rattle.rf233.specs.Create.{newCall}
@@ -22,7 +23,7 @@ use Rattle.rf233.specs.Record as rec
 use Rattle.rf233.specs.Described.{described}
 use Rattle.rf233.specs.Record.{recordHas}
 use Rattle.rf233.specs.State.{stateNo}
-use Rattle.rf233.specs.Transfer.{transferOf, noTransfer, isIdle}
+use Rattle.rf233.specs.Transfer.{transferOf, noTransfer, freeToStart}
 use Rattle.rf233.specs.declared.action.Action.the-variants.{Sent}
 use Rattle.rf233.specs.declared.answer.Answer.the-variants.{Done}
 use Rattle.rf233.specs.declared.driver.Driver.{Driver}
@@ -33,9 +34,7 @@ use Rattle.rf233.proofs.Keys.{range}
 
 -- the driver with another power
 abbrev pub withPower : ℤ → Driver → Driver
-withPower t d =
-    let s = d .settings in
-    withSettings (settingsOf (s .addr) (s .«addr_long») (s .pan) t (s .channel)) d
+withPower t d = withSettings (withTxPower t (d .settings)) d
 
 -- refusal 12 does not apply: the pool is 3,040 bytes long, the driver value is not one that 12 describes
 pub record Passes12 (d : Driver) (p : List ℕ) : Type 0 where
@@ -172,7 +171,7 @@ pub record StarredCases : Type 0 where
       × In 29 (run ys 13 (completionCall d xs p) .outcome .driver)
   -- "A commit called in READY during a transfer skips SHORT_ADDR_0 instead." It starts nothing, and the next completion writes SHORT_ADDR_1
   pub commit-during : (d : Driver) (p : List ℕ) → Passes12 d p → In 29 d → d .flags .«config_pending» ≡ false
-      → isIdle (d .buffers .under) ≡ false
+      → freeToStart (d .buffers) ≡ false
       → (commitCall d p .outcome .reply .transfer ≡ noTransfer) × In 45 (commitCall d p .outcome .driver)
   pub commit-during-next : (d : Driver) (xs p : List ℕ) → Completes Register 29 d xs p → d .flags .«config_pending» ≡ false
       → d .settings .addr ≡ 0xABCD

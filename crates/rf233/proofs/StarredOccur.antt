@@ -7,8 +7,7 @@ use Prim.Native.Nat.{ℕ}
 use lib.Dec.{lit≤}
 use lib.IntN.{pos}
 use lib.ListN.{replicate, length-replicate}
-use Rattle.rf233.specs.Config.{settingsOf}
-use Rattle.rf233.specs.Driver.{driverOf, flagsOf}
+use Rattle.rf233.specs.Driver.{driverOf, flagsOf, clientsOf, settingsOf, buffersOf}
 use Rattle.rf233.specs.Described.{described}
 use Rattle.rf233.specs.Record.{countOf}
 use Rattle.rf233.specs.declared.driver.Driver.{Driver}
@@ -39,19 +38,9 @@ pool = replicate 3040 0
 abbrev example : InternalState → Bool → Bool → Bool → Bool → Slot → Slot → Under → Driver
 example s w h t b x y u =
     driverOf s (flagsOf true false false false h false w false false false)
-    (record { «tx_client» = true; «rx_client» = true; «cfg_client» = true; «power_client» = true })
+    (clientsOf true true true true)
     (settingsOf 0xABCD (replicate 8 0) 0x1234 (pos 4) 26)
-    (record {
-      «spi_tx» = t;
-      «spi_rx» = t;
-      «spi_buf» = b;
-      «spi_buf_whole» = 129;
-      «spi_buf_len» = 2;
-      «tx_buf» = x;
-      «rx_buf» = y;
-      «tx_len» = 10;
-      under = u;
-    })
+    (buffersOf t t b 129 2 x y 10 u)
 
 passes : (d : Driver) → described d ≡ false → Passes12 d pool
 unfolding pool

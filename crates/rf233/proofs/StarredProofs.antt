@@ -42,7 +42,7 @@ use Rattle.rf233.specs.Rows.Next.{to}
 use Rattle.rf233.specs.Rows.Row.{does}
 use Rattle.rf233.specs.Rows.Tree.{leaf}
 use Rattle.rf233.specs.State.{stateNo}
-use Rattle.rf233.specs.Transfer.{transferOf, isIdle}
+use Rattle.rf233.specs.Transfer.{transferOf, freeToStart}
 use Rattle.rf233.specs.Starter.{registerTransfer, frameReadInto}
 use Rattle.rf233.specs.Write.{valueOf}
 use Rattle.rf233.specs.declared.answer.Outcome.{Outcome}
@@ -61,7 +61,7 @@ use Rattle.rf233.proofs.ChoiceLaws.{either}
 use Rattle.rf233.proofs.Accepted.{arrived}
 use Rattle.rf233.proofs.Conditions.{by-flag}
 use Rattle.rf233.proofs.Keys.{range}
-use Rattle.rf233.proofs.OwnBuffers.{Plain, moved, tx-home, rx-home, buf-home, frame-home, same-record, new-fit}
+use Rattle.rf233.proofs.OwnBuffers.{Plain, moved, tx-home, rx-home, buf-home, frame-home, same-record, new-fit, register-refrains}
 use Rattle.rf233.proofs.PoolLaws.{command-written-length}
 use Rattle.rf233.proofs.StarredSteps.{unguarded, sends, unmoved, next, still, accepted-step, straight, write-case, Goes}
 use Rattle.rf233.proofs.Starred.{
@@ -145,10 +145,11 @@ module _ {d : Driver} {xs p : List ℕ} (h : Completes Register 29 d xs p) where
       })
 
 -- called in READY during a transfer, a commit starts nothing and leaves 45
-during : (d : Driver) (p : List ℕ) → Passes12 d p → In 29 d → d .flags .«config_pending» ≡ false → isIdle (d .buffers .under) ≡ false
+during : (d : Driver) (p : List ℕ) → Passes12 d p → In 29 d → d .flags .«config_pending» ≡ false → freeToStart (d .buffers) ≡ false
     → commitCall d p ≡ record { outcome = quiet (withState «CONFIG_SHORT0_SET» (flagged configPending true d)) (actions []); pool = p }
-unfolding commitCall beginCommit registerTransfer commandWritten pick
-during d p h s c u = rw (unguarded d p _ h, c, s, u)
+unfolding commitCall beginCommit commandWritten pick
+during d p h s c u =
+    rw (unguarded d p _ h, c, s, register-refrains (withState «CONFIG_SHORT0_SET» (flagged configPending true d)) 2 _ _ u)
 
 during-next : (d : Driver) (xs p : List ℕ) → Completes Register 29 d xs p → d .flags .«config_pending» ≡ false
     → Sends 2 0xE1 (valueOf AddrHigh (d .settings)) 46 (completionCall (commitCall d p .outcome .driver) xs (commitCall d p .pool))

@@ -24,7 +24,7 @@ use Rattle.rf233.specs.Rows.Next.{to}
 use Rattle.rf233.specs.Rows.Row.{does}
 use Rattle.rf233.specs.Rows.Tree.{leaf}
 use Rattle.rf233.specs.State.{stateNo}
-use Rattle.rf233.specs.Transfer.{transferOf, isIdle}
+use Rattle.rf233.specs.Transfer.{transferOf, underWay}
 use Rattle.rf233.specs.Starter.{registerTransfer}
 use Rattle.rf233.specs.Write.{valueOf}
 use Rattle.rf233.specs.declared.answer.Outcome.{Outcome}
@@ -77,12 +77,12 @@ module _ {u : Under} {n : ℕ} {d : Driver} {xs p : List ℕ} (h : Completes u n
       ∙ h .passes .pool
 
   -- it is accepted, and the step is made
-  pub accepted-step : isIdle u ≡ false → completionCall d xs p ≡ stepping (completed (arrived d xs p) d) (brought d xs p)
+  pub accepted-step : underWay u ≡ true → completionCall d xs p ≡ stepping (completed (arrived d xs p) d) (brought d xs p)
   unfolding completionCall completing pick
-  accepted-step i = rw (unguarded d p _ (h .passes), h .arrived, ap isIdle (h .under-way) ∙ i)
+  accepted-step i = rw (unguarded d p _ (h .passes), h .arrived, ap underWay (h .under-way) ∙ i)
 
   -- outside READY it is the own case of the state m that the transfer leaves
-  pub straight : (m : ℕ) → isIdle u ≡ false → stateNo (frameDone false (d .state)) ≡ m → eqb m 29 ≡ false
+  pub straight : (m : ℕ) → underWay u ≡ true → stateNo (frameDone false (d .state)) ≡ m → eqb m 29 ≡ false
       → completionCall d xs p ≡ stepping (caseOf m (arrived d xs p) (transferOver d)) (brought d xs p)
   unfolding completed readyBookkeeping pendingInterrupt waitingCommit pick
   straight m i s e = rw (accepted-step i, h .handling, s, e, h .pending, and-false)

@@ -12,7 +12,7 @@ use borrow.Author.Tests.{eqb-true, eqb-false, le-leb, not-true, not-false}
 use lib.ListN.{getD}
 use Rattle.rf233_const.specs.Bits.{bitSet}
 use Rattle.rf233.specs.Choice.{pick, oneOf}
-use Rattle.rf233.specs.Driver.{inNo, driverOf, flagsOf, recordWith}
+use Rattle.rf233.specs.Driver.{inNo, driverOf, flagsOf, withRegisters, withUnder}
 use Rattle.rf233.specs.Completion.{completed, interruptResult, frameEnd, readyBookkeeping, pendingInterrupt, waitingCommit, frameDone}
 use Rattle.rf233.specs.Interrupt.{handleInterrupt, interruptState, pllLock, rxStart, trxEnd}
 use Rattle.rf233.specs.Config.{startCall, beginStart}
@@ -24,7 +24,7 @@ use Rattle.rf233.specs.Rows.{eval, holds}
 use Rattle.rf233.specs.StartupClaim.{after, accepted, showsLock, Starting, StartupClaim}
 use Rattle.rf233.specs.StartupClaim.Starting.{begins, completes, fires, completionRefused, firingRefused}
 use Rattle.rf233.specs.State.{stateNo}
-use Rattle.rf233.specs.Transfer.{isIdle}
+use Rattle.rf233.specs.Transfer.{toComplete}
 use Rattle.rf233.specs.Starter.{registerTransfer}
 use Rattle.rf233.specs.declared.arrived.Arrived.{Arrived}
 use Rattle.rf233.specs.declared.driver.Driver.{Driver}
@@ -99,7 +99,7 @@ data Stage : Type 0 where
 staged : ℕ → ℕ → InternalState → Bool → Bool → Bool → Bool → Bool → Driver
 staged l c s o h i w e =
     driverOf s (flagsOf o false false false h i false false w false) (newDriver l c .clients) (newDriver l c .settings)
-    (recordWith e e true l Empty Empty (pick e Idle Register) (newDriver l c .buffers))
+    (withUnder (pick e Idle Register) (withRegisters e (newDriver l c .buffers)))
 
 stage : ℕ → ℕ → Stage → Driver
 stage l c (at n) = staged l c (stateAt n) false false false true false
@@ -270,13 +270,13 @@ under-way pending = true
 under-way reading = true
 under-way ready = false
 
-idle-is : (l c : ℕ) (s : Stage) → isIdle (stage l c s .buffers .under) ≡ not (under-way s)
+to-complete : (l c : ℕ) (s : Stage) → toComplete (stage l c s .buffers) ≡ under-way s
 unfolding stage staged pick
-idle-is l c (at n) = refl
-idle-is l c waiting = refl
-idle-is l c pending = refl
-idle-is l c reading = refl
-idle-is l c ready = refl
+to-complete l c (at n) = refl
+to-complete l c waiting = refl
+to-complete l c pending = refl
+to-complete l c reading = refl
+to-complete l c ready = refl
 
 -- the stage has the read of IRQ_STATUS under way
 abbrev handles : Stage → Bool
@@ -339,8 +339,8 @@ after-completion : (l c n : ℕ) (f : Bool) (d : Driver) (xs p : List ℕ) → S
     → showsLock d xs ≡ true → Stands l c (n + 1) f (after (completionCall d xs p))
 after-completion l c n f d xs p k e b =
     let s = k .in-stage in
-    let busy : under-way s ≡ true = not-false (under-way s)
-    (sym (idle-is l c s) ∙ (ap (λ x. isIdle (x .buffers .under)) (sym (k .is)) ∙ had-transfer d xs p e)) in
+    let busy : under-way s ≡ true =
+    sym (to-complete l c s) ∙ (ap (λ x. toComplete (x .buffers)) (sym (k .is)) ∙ had-transfer d xs p e) in
     subst (Stands l c (n + 1) f) (sym (completion-accepted d xs p e))
     (subst (λ x. Stands l c (n + 1) f (completed (arrived d xs p) x .driver)) (sym (k .is))
     (goes-on l c n f s (arrived d xs p) (k .few) (k .with-firing) (subst T (sym busy) tt)
@@ -370,27 +370,27 @@ bounded-by f pending g = omega arith
 bounded-by f reading g = omega arith
 bounded-by f ready g = omega arith
 
-arrives-in : (l c : ℕ) (s : Stage) → T (goes true s) → isIdle (stage l c s .buffers .under) ≡ true
+arrives-in : (l c : ℕ) (s : Stage) → T (goes true s) → toComplete (stage l c s .buffers) ≡ false
     → (inNo 29 (stage l c s) ≡ true) × (stage l c s .flags .«radio_on» ≡ true)
 unfolding stage staged pick
-arrives-in l c (at m) g i = absurd (subst T (sym i) tt)
+arrives-in l c (at m) g i = absurd (subst T i tt)
 arrives-in l c waiting g i = absurd g
-arrives-in l c pending g i = absurd (subst T (sym i) tt)
-arrives-in l c reading g i = absurd (subst T (sym i) tt)
+arrives-in l c pending g i = absurd (subst T i tt)
+arrives-in l c reading g i = absurd (subst T i tt)
 arrives-in l c ready g i = (refl, refl)
 
-waits-in : (l c : ℕ) (s : Stage) → T (goes false s) → isIdle (stage l c s .buffers .under) ≡ true → inNo 27 (stage l c s) ≡ true
+waits-in : (l c : ℕ) (s : Stage) → T (goes false s) → toComplete (stage l c s .buffers) ≡ false → inNo 27 (stage l c s) ≡ true
 unfolding stage staged pick
-waits-in l c (at m) g i = absurd (subst T (sym i) tt)
+waits-in l c (at m) g i = absurd (subst T i tt)
 waits-in l c waiting g i = refl
 waits-in l c pending g i = absurd g
 waits-in l c reading g i = absurd g
 waits-in l c ready g i = absurd g
 
--- the stage is idle where the driver is
-idle : {l c n : ℕ} {f : Bool} {d : Driver} (k : Stands l c n f d) → isIdle (d .buffers .under) ≡ true
-    → isIdle (stage l c (k .in-stage) .buffers .under) ≡ true
-idle k i = ap (λ x. isIdle (x .buffers .under)) (sym (k .is)) ∙ i
+-- the stage has no transfer to complete where the driver has none
+idle : {l c n : ℕ} {f : Bool} {d : Driver} (k : Stands l c n f d) → toComplete (d .buffers) ≡ false
+    → toComplete (stage l c (k .in-stage) .buffers) ≡ false
+idle k i = ap (λ x. toComplete (x .buffers)) (sym (k .is)) ∙ i
 
 pub startup-claim : StartupClaim
 startup-claim l c n f d r =

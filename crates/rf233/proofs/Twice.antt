@@ -1,32 +1,128 @@
 -- What is recorded twice or nowhere, found without counting (`uncounted`): where no client's place names an own buffer, a client's buffer
--- is recorded twice exactly if two client's places name it, and an own buffer once exactly if it is in its own place while no transfer has
--- it. Assumes nothing.
+-- is recorded twice exactly if it stands twice in the list of those that the places name, however many places there are (`clients`), and
+-- an own buffer once exactly if it is in its own place while no transfer has it. Assumes nothing.
 use Prim.Native.Nat.{ℕ, zero, suc, _+_, _<_}
-use mathlib.Core.Path.{_≡_, refl, sym, subst}
+use mathlib.Core.Path.{_≡_, refl, sym, ap, subst}
 use mathlib.Core.Bool.{Bool, true, false, not, _&&_, _||_, and-true, and-false, or-true, or-false, or-assoc}
+use mathlib.Core.List.{List, [], _∷_, _++_}
 use native.Mathlib.Omega.{arith}
-use lib.Dec.{T, eqb, ltb, eqb-refl, lit<, lt→ltb}
-use borrow.Author.Tests.{eqb-true, eqb-false, ne-eqb, ltb-false}
+use lib.Dec.{T, eqb, ltb, lit<, lt→ltb, ltb→lt}
+use borrow.Author.Tests.{eqb-true, eqb-false, eq-eqb, ne-eqb, ltb-true, ltb-false, lt-ltb}
 use Rattle.rf233.proofs.Conditions.{by-flag}
-use Rattle.laws.proofs.Logic.{is-true, none-left, none-right, both-ways, or-left, or-right, or-case}
+use Rattle.laws.proofs.Logic.{none-left, none-right, both-ways, or-left, or-right, or-case, or-left-comm}
 use Rattle.rf233.proofs.OwnBuffers.{only-16, only-17, only-18, slot-below}
 use Rattle.rf233.specs.Record.{slotHas, underHas, ownHas, one, countOf, recordHas}
-use Rattle.rf233.specs.Described.{slotAbove, underSlot, twiceBelow, recordedTwice, ownNowhere, clientAbove, sameBuffer, ownWrong}
+use Rattle.rf233.specs.Described.{
+  slotAbove,
+  underSlot,
+  twiceBelow,
+  recordedTwice,
+  ownNowhere,
+  clientAbove,
+  named,
+  times,
+  meets,
+  ownWrong,
+}
 use Rattle.rf233.specs.declared.driver.Buffers.{Buffers}
 use Rattle.rf233.specs.declared.driver.Slot.{Slot}
 use Rattle.rf233.specs.declared.driver.Slot.the-variants.{Empty, Held}
 use Rattle.rf233.specs.declared.driver.Under.{Under}
 use Rattle.rf233.specs.declared.driver.Under.the-variants.{Idle, Register, FrameRead, FrameWrite}
 
--- two places that have a buffer name the same one, and the other way round
-same : (x y : Slot) (k : ℕ) → slotHas x k ≡ true → slotHas y k ≡ true → T (sameBuffer x y)
-same Empty y k p q = absurd (subst T (sym p) tt)
-same (Held c l) y k p q = rw (eqb-true c k p, q) tt
+-- ---- a list that names a buffer twice
 
-same-one : {A : Type 0} (x y : Slot) → slotAbove x ≡ false → T (sameBuffer x y)
-    → ((k : ℕ) → k < 16 → slotHas x k ≡ true → slotHas y k ≡ true → A) → A
-same-one Empty y e t f = absurd t
-same-one (Held c l) y e t f = f c (omega (arith, ltb-false 15 c e)) (is-true (eqb c c) (eqb-refl c)) (is-true (slotHas y c) t)
+-- a list names a buffer again
+abbrev pub repeats : List ℕ → Bool
+repeats [] = false
+repeats (c ∷ l) = ltb 0 (times c l) || repeats l
+
+-- the buffers that the client's places name
+abbrev pub clientsNamed : Buffers → List ℕ
+clientsNamed r = named (r .«tx_buf») ++ (named (r .«rx_buf») ++ named (underSlot (r .under)))
+
+-- a buffer that a list names more than once stands again behind one of its elements
+names-again : (l : List ℕ) (k : ℕ) → 1 < times k l → T (repeats l)
+names-again [] k h = absurd (omega arith)
+names-again (c ∷ l) k h =
+    by-flag (eqb c k)
+    (λ e. or-left (ltb 0 (times c l)) (repeats l)
+    (lt→ltb 0 (times c l) (rw (eqb-true c k e) (omega (arith, rw e at h)))))
+    (λ e. or-right (ltb 0 (times c l)) (repeats l) (names-again l k (omega (arith, rw e at h))))
+
+-- and the other way round
+again-named : {A : Type 0} (l : List ℕ) → T (repeats l) → ((k : ℕ) → 1 < times k l → A) → A
+again-named [] t f = absurd t
+again-named (c ∷ l) t f =
+    or-case (ltb 0 (times c l)) (repeats l) t
+    (λ x. f c (rw (eq-eqb c c refl) (omega (arith, ltb→lt 0 (times c l) x))))
+    (λ x. again-named l x (λ k h. f k (omega (arith, h))))
+
+times-append : (k : ℕ) (l m : List ℕ) → times k (l ++ m) ≡ times k l + times k m
+times-append k [] m = omega arith
+times-append k (c ∷ l) m = omega (arith, times-append k l m)
+
+-- a place names what it has
+named-times : (s : Slot) (k : ℕ) → times k (named s) ≡ one (slotHas s k)
+named-times Empty k = refl
+named-times (Held c l) k = omega arith
+
+some-append : (a b : ℕ) → ltb 0 (a + b) ≡ ltb 0 a || ltb 0 b
+some-append zero b = let e : 0 + b ≡ b = omega arith in ap (ltb 0) e
+some-append (suc a) b = rw (lt-ltb 0 (suc a + b) (omega arith), lt-ltb 0 (suc a) (omega arith))
+
+-- the order of tests
+two-two : (a b c d : Bool) → (a || b) || (c || d) ≡ (a || c) || (b || d)
+two-two a b c d = simp (or-assoc, or-left-comm)
+
+two-three : (a b c d e : Bool) → (a || b) || (c || (d || e)) ≡ (b || c) || ((a || d) || e)
+two-three a b c d e = simp (or-assoc, or-left-comm)
+
+-- in two lists joined: one of them names a buffer again, or both name the same
+meets-append : (l m n : List ℕ) → meets l (m ++ n) ≡ meets l m || meets l n
+meets-append [] m n = refl
+meets-append (c ∷ l) m n =
+    rw (times-append c m n, some-append (times c m) (times c n), meets-append l m n)
+    (two-two (ltb 0 (times c m)) (ltb 0 (times c n)) (meets l m) (meets l n))
+
+pub repeats-append : (l m : List ℕ) → repeats (l ++ m) ≡ meets l m || (repeats l || repeats m)
+repeats-append [] m = refl
+repeats-append (c ∷ l) m =
+    rw (times-append c l m, some-append (times c l) (times c m), repeats-append l m)
+    (two-three (ltb 0 (times c l)) (ltb 0 (times c m)) (meets l m) (repeats l) (repeats m))
+
+-- a place names no buffer twice, and meets another's as `same_buffer` asks
+named-once : (s : Slot) → repeats (named s) ≡ false
+named-once Empty = refl
+named-once (Held c l) = refl
+
+pub meets-slot : (c : ℕ) (s : Slot) → meets (c ∷ []) (named s) ≡ slotHas s c
+meets-slot c Empty = refl
+meets-slot c (Held b l) = go (eqb b c)
+  where
+    go : (v : Bool) → ltb 0 (one v + 0) || false ≡ v
+    go true = refl
+    go false = refl
+
+pub meets-empty : (s : Slot) → meets (named s) [] ≡ false
+meets-empty Empty = refl
+meets-empty (Held c l) = refl
+
+-- the client's places, two by two
+pub pairs : (x y z : Slot) → (meets (named x) (named y) || meets (named x) (named z)) || meets (named y) (named z)
+    ≡ repeats (named x ++ (named y ++ named z))
+pairs x y z =
+    rw (
+      repeats-append (named x) (named y ++ named z),
+      repeats-append (named y) (named z),
+      meets-append (named x) (named y) (named z),
+      named-once x,
+      named-once y,
+      named-once z,
+      or-false,
+    )
+
+-- ---- own buffers
 
 -- an own buffer is counted in its own place and under way
 own-twice : (a g : Bool) → ltb 1 (one a + 0 + 0 + one g) ≡ a && g
@@ -40,12 +136,6 @@ own-none true true = refl
 own-none true false = refl
 own-none false true = refl
 own-none false false = refl
-
--- two of the three client's places name the same buffer
-abbrev pub clientTwice : Buffers → Bool
-clientTwice r =
-    let going = underSlot (r .under) in
-    sameBuffer (r .«tx_buf») (r .«rx_buf») || (sameBuffer (r .«tx_buf») going || sameBuffer (r .«rx_buf») going)
 
 module _ (r : Buffers) where
   abbrev twice : ℕ → Bool
@@ -79,7 +169,8 @@ module _ (r : Buffers) where
   under-client (FrameRead c l) k h = rw (ne-eqb 18 k (λ e. omega arith))
   under-client (FrameWrite c l) k h = rw (ne-eqb 18 k (λ e. omega arith))
 
-  count-client : (k : ℕ) → k < 16 → countOf r k ≡ 0 + one (slotHas tx k) + one (slotHas rx k) + one (slotHas going k)
+  -- a client's buffer is recorded as often as the places name it
+  count-client : (k : ℕ) → k < 16 → countOf r k ≡ times k (clientsNamed r)
   unfolding countOf
   count-client k h =
       rw (
@@ -90,19 +181,13 @@ module _ (r : Buffers) where
         and-false (r .«spi_rx»),
         and-false (r .«spi_buf»),
         under-client (r .under) k h,
+        times-append k (named tx) (named rx ++ named going),
+        times-append k (named rx) (named going),
+        named-times tx k,
+        named-times rx k,
+        named-times going k,
       )
-
-  -- a client's buffer that is recorded twice stands in two of the places
-  in-two : (k : ℕ) → T (ltb 1 (0 + one (slotHas tx k) + one (slotHas rx k) + one (slotHas going k))) → T (clientTwice r)
-  in-two k t =
-      by-flag (slotHas tx k)
-      (λ x. by-flag (slotHas rx k) (λ y. or-left (sameBuffer tx rx) _ (same tx rx k x y))
-      (λ y. by-flag (slotHas going k) (λ z. or-right (sameBuffer tx rx) _ (or-left (sameBuffer tx going) _ (same tx going k x z)))
-      (λ z. absurd (rw (x, y, z) at t))))
-      (λ x. by-flag (slotHas rx k)
-      (λ y. by-flag (slotHas going k) (λ z. or-right (sameBuffer tx rx) _ (or-right (sameBuffer tx going) _ (same rx going k y z)))
-      (λ z. absurd (rw (x, y, z) at t)))
-      (λ y. by-flag (slotHas going k) (λ z. absurd (rw (x, y, z) at t)) (λ z. absurd (rw (x, y, z) at t))))
+      (omega arith)
 
   -- no client's place names an own buffer
   module _ (above : clientAbove r ≡ false) where
@@ -115,19 +200,27 @@ module _ (r : Buffers) where
     going-low : slotAbove going ≡ false
     going-low = none-right (slotAbove rx) _ (none-right (slotAbove tx) _ above)
 
-    from-two : T (clientTwice r) → T (twiceBelow r 16)
-    from-two t =
-        or-case (sameBuffer tx rx) _ t
-        (λ t. same-one tx rx tx-low t (λ k h x y. is-below 16 k h
-        (lt→ltb 1 (countOf r k) (omega (arith, rw (x, y) at (count-client k h))))))
-        (λ t. or-case (sameBuffer tx going) _ t
-        (λ t. same-one tx going tx-low t
-        (λ k h x z. is-below 16 k h (lt→ltb 1 (countOf r k) (omega (arith, rw (x, z) at (count-client k h))))))
-        (λ t. same-one rx going rx-low t
-        (λ k h y z. is-below 16 k h (lt→ltb 1 (countOf r k) (omega (arith, rw (y, z) at (count-client k h)))))))
+    -- what the places name is below 16
+    named-low : (s : Slot) (k : ℕ) → slotAbove s ≡ false → 0 < times k (named s) → k < 16
+    named-low Empty k e h = absurd (omega arith)
+    named-low (Held c l) k e h =
+        by-flag (eqb c k) (λ q. omega (arith, ltb-false 15 c e, eqb-true c k q)) (λ q. absurd (omega (arith, rw q at h)))
 
-    clients : twiceBelow r 16 ≡ clientTwice r
-    clients = both-ways (twiceBelow r 16) (clientTwice r) (λ t. found 16 t (λ k h x. in-two k (rw (count-client k h) at x))) from-two
+    all-low : (k : ℕ) → 0 < times k (clientsNamed r) → k < 16
+    all-low k h =
+        let x = times-append k (named tx) (named rx ++ named going) in
+        let y = times-append k (named rx) (named going) in
+        by-flag (ltb 0 (times k (named tx))) (λ e. named-low tx k tx-low (ltb-true 0 (times k (named tx)) e))
+        (λ e. by-flag (ltb 0 (times k (named rx))) (λ f. named-low rx k rx-low (ltb-true 0 (times k (named rx)) f))
+        (λ f. named-low going k going-low
+        (omega (arith, x, y, ltb-false 0 (times k (named tx)) e, ltb-false 0 (times k (named rx)) f))))
+
+    clients : twiceBelow r 16 ≡ repeats (clientsNamed r)
+    clients =
+        both-ways (twiceBelow r 16) (repeats (clientsNamed r))
+        (λ t. found 16 t (λ k h x. names-again (clientsNamed r) k (rw (count-client k h) at (ltb→lt 1 (countOf r k) x))))
+        (λ t. again-named (clientsNamed r) t
+        (λ k h. let i = all-low k (omega arith) in is-below 16 k i (lt→ltb 1 (countOf r k) (rw (count-client k i) h))))
 
     count-own : (k : ℕ) → 15 < k → countOf r k ≡ one (ownHas r k) + 0 + 0 + one (underHas (r .under) k)
     unfolding countOf
@@ -160,7 +253,7 @@ module _ (r : Buffers) where
       (simp (and-true, and-false, or-true, or-false, or-assoc))
 
   pub uncounted : (rest : Bool) → recordedTwice r || (ownNowhere r || (clientAbove r || rest)) ≡ clientAbove r
-      || (clientTwice r || (ownWrong (r .under) r || rest))
+      || (repeats (clientsNamed r) || (ownWrong (r .under) r || rest))
   uncounted rest =
       by-flag (clientAbove r) (λ e. rw e (simp or-true))
       (λ e.
@@ -177,4 +270,4 @@ module _ (r : Buffers) where
         nowhere-own e 17 _ (lit< tt) x,
         nowhere-own e 18 _ (lit< tt) s,
       )
-      (owns (r .under) (going-low e) (clientTwice r) rest))
+      (owns (r .under) (going-low e) (repeats (clientsNamed r)) rest))

@@ -3,7 +3,7 @@ use Prim.Native.Nat.{ℕ}
 use mathlib.Core.List.{List, [], _∷_, _++_}
 use lib.ListN.{getD}
 use Rattle.rf233.specs.Action.{actions}
-use Rattle.rf233.specs.Step.{stepOf}
+use Rattle.rf233.specs.Step.{quiet, stepOf}
 use Rattle.rf233.specs.Choice.{pick}
 use Rattle.rf233.specs.Commit.{commitTrees}
 use Rattle.rf233.specs.Driver.{client, assigning, withState, withBuffers, withTx, withRx}
@@ -19,17 +19,17 @@ use Rattle.rf233.specs.Rows.Shown.{plain, powerChanged, configDone, sent
 use Rattle.rf233.specs.Sleep.{sleepTrees}
 use Rattle.rf233.specs.Startup.{startupTrees}
 use Rattle.rf233.specs.State.{stateNo}
-use Rattle.rf233.specs.Starter.{refrains, registerRead, registerWrite, frameRead, frameWrite}
+use Rattle.rf233.specs.Starter.{registerRead, registerWrite, frameRead, frameWrite}
 use Rattle.rf233.specs.Transmit.{sendDone, transmitTrees}
 use Rattle.rf233.specs.Write.{valueOf}
 use Rattle.rf233.specs.declared.action.Action.{Action}
 use Rattle.rf233.specs.declared.action.Action.the-variants.{Power, ConfigDone, Dropped}
+use Rattle.rf233.specs.declared.action.Actions.{Actions}
 use Rattle.rf233.specs.declared.answer.Outcome.{Outcome}
 use Rattle.rf233.specs.declared.arrived.Arrived.{Arrived}
 use Rattle.rf233.specs.declared.driver.Buffers.{Buffers}
 use Rattle.rf233.specs.declared.driver.Driver.{Driver}
 use Rattle.rf233.specs.declared.driver.Slot.the-variants.{Empty}
-use Rattle.rf233.specs.declared.starter.Started.{Started}
 
 -- the case of each state, in the order of document 01's numbers
 unfoldable pub trees : List Tree
@@ -71,14 +71,14 @@ handed (sentBack ∷ more) b = handed more (withoutTx b)
 handed (droppedBack ∷ more) b = handed more (withoutTx b)
 handed (receivedBack ∷ more) b = handed more (withoutRx b)
 
--- what an access starts
-abbrev pub accessed : Access → Arrived → Driver → Started
-accessed none a d = refrains d
-accessed (reads r) a d = registerRead r d
-accessed (writes r v) a d = registerWrite r (valueOf v (d .settings)) d
-accessed readsLength a d = frameRead 0 d
-accessed readsFrame a d = frameRead (a .result) d
-accessed writesFrame a d = frameWrite d
+-- the step of an access, with these actions
+abbrev pub accessed : Access → Arrived → Actions → Driver → Outcome
+accessed none a l d = quiet d l
+accessed (reads r) a l d = stepOf (registerRead r d) l
+accessed (writes r v) a l d = stepOf (registerWrite r (valueOf v (d .settings)) d) l
+accessed readsLength a l d = stepOf (frameRead 0 d) l
+accessed readsFrame a l d = stepOf (frameRead (a .result) d) l
+accessed writesFrame a l d = stepOf (frameWrite d) l
 
 -- the driver in the next state
 abbrev pub entering : Next → Driver → Driver
@@ -89,7 +89,7 @@ entering (to n) d = withState n d
 unfoldable pub perform : Row → Arrived → Driver → Outcome
 perform (does l x n s) a d =
     let e = entering n (assigning (a .result) l d) in
-    stepOf (accessed x a (withBuffers (handed s (e .buffers)) e)) (actions (shown a e s))
+    accessed x a (actions (shown a e s)) (withBuffers (handed s (e .buffers)) e)
 
 -- the case of state number n
 unfoldable pub caseOf : ℕ → Arrived → Driver → Outcome

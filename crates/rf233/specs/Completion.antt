@@ -7,7 +7,7 @@ use lib.Dec.{eqb}
 use Rattle.rf233_const.specs.declared.register.RF233Register.the-variants.{MIN, «TRX_STATUS», «SHORT_ADDR_0»}
 use Rattle.rf233.specs.Case.{ownCase}
 use Rattle.rf233.specs.Choice.{pick, oneOf}
-use Rattle.rf233.specs.Driver.{flag, flagged, assigning, withState, withBuffers, inNo, recordWith}
+use Rattle.rf233.specs.Driver.{flag, flagged, assigning, withState, withBuffers, withRegisters, withSpiBuf, withTx, withRx, withUnder, inNo}
 use Rattle.rf233.specs.Driver.Assignment.{put}
 use Rattle.rf233.specs.Driver.Flag.{
   radioOn,
@@ -22,9 +22,8 @@ use Rattle.rf233.specs.Driver.Flag.{
 use Rattle.rf233.specs.Interrupt.{handleInterrupt, rxStart, trxEnd, interruptState}
 use Rattle.rf233.specs.Record.{isHeld}
 use Rattle.rf233.specs.State.{stateNo}
-use Rattle.rf233.specs.Step.{transitionRead, transitionWrite}
+use Rattle.rf233.specs.Step.{doneStep, transitionRead, transitionWrite}
 use Rattle.rf233.specs.Write.{valueOf}
-use Rattle.rf233.specs.declared.answer.Answer.the-variants.{Done}
 use Rattle.rf233.specs.declared.answer.Outcome.{Outcome}
 use Rattle.rf233.specs.declared.arrived.Arrived.{Arrived}
 use Rattle.rf233.specs.declared.driver.Buffers.{Buffers}
@@ -39,11 +38,7 @@ use Rattle.rf233.specs.declared.write.Value.the-variants.{AddrLow}
 
 -- a step that begins a transfer and falls on into the next state's case, which finds it under way
 abbrev pub fallsOn : Outcome → Outcome → Outcome
-fallsOn first next =
-    record {
-      driver = next .driver;
-      reply = record { answer = Done; transfer = first .reply .transfer; actions = next .reply .actions };
-    }
+fallsOn first next = doneStep (next .driver) (first .reply .transfer) (next .reply .actions)
 
 -- waiting commit: it starts its first write in READY; the step then falls on into the case of CONFIG_SHORT0_SET, whose write finds that
 -- transfer under way, so that SHORT_ADDR_1 is never written
@@ -92,9 +87,9 @@ interruptResult a d =
 -- buffer return: own buffers to their own places, a frame write's other buffer to the transmit place, a frame read's to the receive place
 abbrev pub buffersBack : Under → Buffers → Buffers
 buffersBack Idle b = b
-buffersBack Register b = recordWith true true (b .«spi_buf») (b .«spi_buf_len») (b .«tx_buf») (b .«rx_buf») Idle b
-buffersBack (FrameRead c l) b = recordWith (b .«spi_tx») (b .«spi_rx») true (b .«spi_buf_len») (b .«tx_buf») (Held c l) Idle b
-buffersBack (FrameWrite c l) b = recordWith (b .«spi_tx») (b .«spi_rx») true (b .«spi_buf_len») (Held c l) (b .«rx_buf») Idle b
+buffersBack Register b = withUnder Idle (withRegisters true b)
+buffersBack (FrameRead c l) b = withUnder Idle (withRx (Held c l) (withSpiBuf true b))
+buffersBack (FrameWrite c l) b = withUnder Idle (withTx (Held c l) (withSpiBuf true b))
 
 -- the state once a frame transfer is over; while an interrupt is handled, the transfer was a register's
 unfoldable pub frameDone : Bool → InternalState → InternalState

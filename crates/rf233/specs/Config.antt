@@ -11,7 +11,7 @@ use Rattle.rf233.specs.Action.{actions}
 use Rattle.rf233.specs.Step.{stepOf, quiet, transitionRead, transitionWrite}
 use Rattle.rf233.specs.Answer.{refused}
 use Rattle.rf233.specs.Choice.{pick, oneOf, within}
-use Rattle.rf233.specs.Driver.{flag, flagged, driverOf, inNo}
+use Rattle.rf233.specs.Driver.{flag, flagged, inNo, withAddr, withAddrLong, withPan, withTxPower, withChannel, withSettings}
 use Rattle.rf233.specs.Driver.Flag.{radioOn, transmitting, configPending, sleepPending, wakePending}
 use Rattle.rf233.specs.Guard.{Called, refusing, stepping, guarded}
 use Rattle.rf233.specs.Power.{powerFits}
@@ -21,7 +21,6 @@ use Rattle.rf233.specs.Write.{valueOf}
 use Rattle.rf233.specs.declared.action.Action.the-variants.{ResetMakeOutput, SleepMakeOutput, ResetClear, ResetSet, SleepClear}
 use Rattle.rf233.specs.declared.answer.Outcome.{Outcome}
 use Rattle.rf233.specs.declared.driver.Driver.{Driver}
-use Rattle.rf233.specs.declared.driver.Settings.{Settings}
 use Rattle.rf233.specs.declared.state.InternalState.the-variants.{«SLEEP_WAKE», «SLEEP_TRX_OFF», «CONFIG_SHORT0_SET»}
 use Rattle.rf233.specs.declared.write.Value.the-variants.{AddrLow}
 
@@ -68,49 +67,29 @@ resetCall d configured =
     (actions (ResetMakeOutput ∷ SleepMakeOutput ∷ ResetClear 10000 ∷ ResetSet ∷ SleepClear ∷ [])))
     (refused 14 d)
 
--- the driver with other settings
-abbrev pub withSettings : Settings → Driver → Driver
-withSettings s d = driverOf (d .state) (d .flags) (d .clients) s (d .buffers)
-
--- the settings of these values
-abbrev pub settingsOf : ℕ → List ℕ → ℕ → ℤ → ℕ → Settings
-settingsOf a l p t c = record { addr = a; «addr_long» = l; pan = p; «tx_power» = t; channel = c }
-
 -- a channel of the 2.4 GHz band: 11 to 26
 abbrev pub channelFits : ℕ → Bool
 channelFits c = within 11 26 c
 
 -- `set_tx_power`: 5 outside its range
 unfoldable pub setPower : Driver → ℤ → Outcome
-setPower d t =
-    let s = d .settings in
-    pick (powerFits t) (quiet (withSettings (settingsOf (s .addr) (s .«addr_long») (s .pan) t (s .channel)) d) (actions []))
-    (refused 5 d)
+setPower d t = pick (powerFits t) (quiet (withSettings (withTxPower t (d .settings)) d) (actions [])) (refused 5 d)
 
 -- `set_channel`: 5 outside its range
 unfoldable pub setChannel : Driver → ℕ → Outcome
-setChannel d c =
-    let s = d .settings in
-    pick (channelFits c) (quiet (withSettings (settingsOf (s .addr) (s .«addr_long») (s .pan) (s .«tx_power») c) d) (actions []))
-    (refused 5 d)
+setChannel d c = pick (channelFits c) (quiet (withSettings (withChannel c (d .settings)) d) (actions [])) (refused 5 d)
 
 -- `set_address` takes any value
 abbrev pub setAddress : Driver → ℕ → Driver
-setAddress d a =
-    let s = d .settings in
-    withSettings (settingsOf a (s .«addr_long») (s .pan) (s .«tx_power») (s .channel)) d
+setAddress d a = withSettings (withAddr a (d .settings)) d
 
 -- `set_address_long` takes any value
 abbrev pub setAddressLong : Driver → List ℕ → Driver
-setAddressLong d l =
-    let s = d .settings in
-    withSettings (settingsOf (s .addr) l (s .pan) (s .«tx_power») (s .channel)) d
+setAddressLong d l = withSettings (withAddrLong l (d .settings)) d
 
 -- `set_pan` takes any value
 abbrev pub setPan : Driver → ℕ → Driver
-setPan d p =
-    let s = d .settings in
-    withSettings (settingsOf (s .addr) (s .«addr_long») p (s .«tx_power») (s .channel)) d
+setPan d p = withSettings (withPan p (d .settings)) d
 
 -- `busy`: in any state but READY and SLEEP
 abbrev pub isBusy : Driver → Bool

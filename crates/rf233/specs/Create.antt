@@ -6,10 +6,9 @@ use lib.ListN.{replicate}
 use Rattle.rf233.specs.Action.{actions}
 use Rattle.rf233.specs.Step.{quiet}
 use Rattle.rf233.specs.Answer.{refused}
-use Rattle.rf233.specs.Config.{settingsOf, channelFits}
+use Rattle.rf233.specs.Config.{channelFits}
 use Rattle.rf233.specs.Choice.{pick, within}
-use Rattle.rf233.specs.Driver.{driverOf, flagsOf}
-use Rattle.rf233.specs.Listeners.{clientsOf}
+use Rattle.rf233.specs.Driver.{driverOf, flagsOf, clientsOf, settingsOf, buffersOf}
 use Rattle.rf233.specs.Power.{settingToPower}
 use Rattle.rf233.specs.declared.answer.Outcome.{Outcome}
 use Rattle.rf233.specs.declared.driver.Driver.{Driver}
@@ -24,17 +23,7 @@ newDriver l c =
     driverOf START (flagsOf false false false false false false false false false false)
     (clientsOf false false false false)
     (settingsOf 0 (replicate 8 0) 0 (settingToPower 0) c)
-    (record {
-      «spi_tx» = true;
-      «spi_rx» = true;
-      «spi_buf» = true;
-      «spi_buf_whole» = l;
-      «spi_buf_len» = l;
-      «tx_buf» = Empty;
-      «rx_buf» = Empty;
-      «tx_len» = 0;
-      under = Idle;
-    })
+    (buffersOf true true true l l Empty Empty 0 Idle)
 
 -- 15: a length outside 129 to 160 or a bad channel; the driver beside it is that of 129 and channel 26
 unfoldable pub newCall : ℕ → ℕ → Outcome

@@ -9,32 +9,15 @@ use Rattle.rf233.specs.Action.{actions}
 use Rattle.rf233.specs.Step.{quiet, transitionRead}
 use Rattle.rf233.specs.Answer.{refused}
 use Rattle.rf233.specs.Choice.{pick}
-use Rattle.rf233.specs.Driver.{flag, flagged, withBuffers, inNo}
+use Rattle.rf233.specs.Driver.{flag, flagged, withBuffers, withTx, withRx, withTxLen, inNo}
 use Rattle.rf233.specs.Driver.Flag.{radioOn, transmitting, receiving}
 use Rattle.rf233.specs.Guard.{Called, refusing, stepping, guarded}
 use Rattle.rf233.specs.Pool.{startOf}
 use Rattle.rf233.specs.Record.{isHeld, recordHas, txUnderWay, rxUnderWay}
 use Rattle.rf233.specs.declared.answer.Outcome.{Outcome}
-use Rattle.rf233.specs.declared.driver.Buffers.{Buffers}
 use Rattle.rf233.specs.declared.driver.Driver.{Driver}
-use Rattle.rf233.specs.declared.driver.Slot.{Slot}
 use Rattle.rf233.specs.declared.driver.Slot.the-variants.{Held}
 use Rattle.rf233.specs.declared.state.InternalState.the-variants.{«TX_STATUS_PRECHECK1»}
-
--- the record with these client's places and this n
-abbrev pub lent : Slot → Slot → ℕ → Buffers → Buffers
-lent x y n b =
-    record {
-      «spi_tx» = b .«spi_tx»;
-      «spi_rx» = b .«spi_rx»;
-      «spi_buf» = b .«spi_buf»;
-      «spi_buf_whole» = b .«spi_buf_whole»;
-      «spi_buf_len» = b .«spi_buf_len»;
-      «tx_buf» = x;
-      «rx_buf» = y;
-      «tx_len» = n;
-      under = b .under;
-    }
 
 -- refusal 7: a buffer that is no client's, or longer than a buffer of the pool
 abbrev pub handleBad : ℕ → ℕ → Bool
@@ -52,8 +35,7 @@ rxFull d = isHeld (d .buffers .«rx_buf») || isHeld (rxUnderWay (d .buffers .un
 -- begins at once
 unfoldable pub beginTransmit : Driver → ℕ → ℕ → ℕ → Outcome
 beginTransmit d b l n =
-    let r = d .buffers in
-    let e = flagged transmitting true (withBuffers (lent (Held b l) (r .«rx_buf») (n + 2) r) d) in
+    let e = flagged transmitting true (withBuffers (withTxLen (n + 2) (withTx (Held b l) (d .buffers))) d) in
     pick (not (flag receiving (d .flags)) && inNo 29 d) (transitionRead «TRX_STATUS» «TX_STATUS_PRECHECK1» e)
     (quiet e (actions []))
 
@@ -72,9 +54,8 @@ transmitCall d b l n p =
 -- the receive buffer's refusals in order: 7, 9, 10, 8
 unfoldable pub receiveBufferCall : Driver → ℕ → ℕ → Outcome
 receiveBufferCall d b l =
-    let r = d .buffers in
     pick (handleBad b l) (refused 7 d)
     (pick (ltb l 129) (refused 9 d)
     (pick (rxFull d) (refused 10 d)
-    (pick (recordHas r b) (refused 8 d)
-    (quiet (withBuffers (lent (r .«tx_buf») (Held b l) (r .«tx_len») r) d) (actions [])))))
+    (pick (recordHas (d .buffers) b) (refused 8 d)
+    (quiet (withBuffers (withRx (Held b l) (d .buffers)) d) (actions [])))))

@@ -1,10 +1,10 @@
 -- What refusal 12 describes of a driver value (document 01, "Who can cause which refusal"), clause by clause.
 use Prim.Native.Nat.{ℕ, zero, suc, _+_}
 use mathlib.Core.Bool.{Bool, false, not, _&&_, _||_}
-use mathlib.Core.List.{[], _∷_}
+use mathlib.Core.List.{List, [], _∷_, _++_}
 use lib.Dec.{eqb, ltb}
 use Rattle.rf233.specs.Choice.{oneOf, within}
-use Rattle.rf233.specs.Record.{isHeld, slotHas, countOf, recordHas, txUnderWay, rxUnderWay}
+use Rattle.rf233.specs.Record.{isHeld, one, countOf, recordHas, txUnderWay, rxUnderWay}
 use Rattle.rf233.specs.State.{stateNo, stateFrame}
 use Rattle.rf233.specs.declared.driver.Buffers.{Buffers}
 use Rattle.rf233.specs.declared.driver.Driver.{Driver}
@@ -92,10 +92,24 @@ described d =
 
 -- The parts in which `is_described` asks this, place by place: `described` is made of them (`regrouped` in proofs/Regrouped.antt).
 
+-- the buffer that a place names, as a list of none or one
+abbrev pub named : Slot → List ℕ
+named Empty = []
+named (Held c l) = c ∷ []
+
+-- how often a list names buffer b
+abbrev pub times : ℕ → List ℕ → ℕ
+times b [] = 0
+times b (c ∷ l) = one (eqb c b) + times b l
+
+-- two lists name the same buffer
+abbrev pub meets : List ℕ → List ℕ → Bool
+meets [] m = false
+meets (c ∷ l) m = ltb 0 (times c m) || meets l m
+
 -- the two places name the same buffer
 abbrev pub sameBuffer : Slot → Slot → Bool
-sameBuffer Empty y = false
-sameBuffer (Held c l) y = slotHas y c
+sameBuffer x y = meets (named x) (named y)
 
 -- an own buffer in its own place while the transfer has it, or out of it while it does not
 abbrev pub ownWrong : Under → Buffers → Bool

@@ -14,7 +14,7 @@ use Rattle.rf233.specs.Choice.{pick}
 use Rattle.rf233.specs.Driver.{flagged, inNo}
 use Rattle.rf233.specs.Driver.Flag.{interruptHandling, interruptPending}
 use Rattle.rf233.specs.State.{stateNo}
-use Rattle.rf233.specs.Transfer.{isIdle}
+use Rattle.rf233.specs.Transfer.{freeToStart}
 use Rattle.rf233.specs.Starter.{registerRead}
 use Rattle.rf233.specs.declared.answer.Outcome.{Outcome}
 use Rattle.rf233.specs.declared.arrived.Arrived.{Arrived}
@@ -25,7 +25,7 @@ use Rattle.rf233.specs.declared.state.InternalState.the-variants.{«ON_P
 -- a firing with no transfer under way reads IRQ_STATUS, in RX it stops reception first; during a transfer it is remembered
 unfoldable pub handleInterrupt : Driver → Outcome
 handleInterrupt d =
-    pick (isIdle (d .buffers .under))
+    pick (freeToStart (d .buffers))
     (pick (inNo 59 d) (transitionWrite «TRX_STATE» (commandValue cmd.«PLL_ON») «RX_TURNING_OFF» d)
     (stepOf (registerRead «IRQ_STATUS» (flagged interruptHandling true d)) (actions [])))
     (quiet (flagged interruptPending true d) (actions []))

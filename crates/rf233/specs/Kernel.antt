@@ -1,6 +1,6 @@
 -- What the kernel brings: a completion with its arrived bytes, and a firing of the interrupt pin.
 use Prim.Native.Nat.{ℕ}
-use mathlib.Core.Bool.{Bool, _||_}
+use mathlib.Core.Bool.{Bool, not, _||_}
 use mathlib.Core.List.{List}
 use lib.Dec.{ltb}
 use lib.ListN.{length}
@@ -10,7 +10,7 @@ use Rattle.rf233.specs.Completion.{completed}
 use Rattle.rf233.specs.Guard.{Called, refusing, stepping, guarded}
 use Rattle.rf233.specs.Interrupt.{handleInterrupt}
 use Rattle.rf233.specs.Pool.{copied, readBuffer, shorter}
-use Rattle.rf233.specs.Transfer.{isIdle}
+use Rattle.rf233.specs.Transfer.{toComplete}
 use Rattle.rf233.specs.declared.driver.Buffers.{Buffers}
 use Rattle.rf233.specs.declared.driver.Driver.{Driver}
 
@@ -24,11 +24,11 @@ completing d xs p =
     let q = copied (readBuffer (d .buffers .under)) xs p in
     stepping (completed (arrivedOf xs (d .buffers) q) d) q
 
--- completion: 12; 11 with no transfer; 13
+-- completion: 12; 11 with no transfer to complete; 13
 unfoldable pub completionCall : Driver → List ℕ → List ℕ → Called
 completionCall d xs p =
     guarded d p
-    (pick (isIdle (d .buffers .under)) (refusing 11 d p)
+    (pick (not (toComplete (d .buffers))) (refusing 11 d p)
     (pick (arrivedBad xs (d .buffers)) (refusing 13 d p) (completing d xs p)))
 
 -- firing: 12

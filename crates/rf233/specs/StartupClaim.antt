@@ -14,7 +14,7 @@ use Rattle.rf233.specs.Create.{newDriver}
 use Rattle.rf233.specs.Driver.{inNo}
 use Rattle.rf233.specs.Guard.{Called}
 use Rattle.rf233.specs.Kernel.{completionCall, firedCall}
-use Rattle.rf233.specs.Transfer.{isIdle}
+use Rattle.rf233.specs.Transfer.{toComplete}
 use Rattle.rf233.specs.declared.driver.Driver.{Driver}
 
 -- the driver that a call leaves
@@ -42,12 +42,12 @@ pub data Starting (l c : ℕ) : ℕ → Bool → Driver → Type 0 where
   firingRefused : {n : ℕ} {f : Bool} {d : Driver} → Starting l c n f d → (p : List ℕ) → accepted (firedCall d p) ≡ false
       → Starting l c n f (after (firedCall d p))
 
--- what holds all along: at most 30 completions are accepted; once the firing has come and no transfer is under way, so that no further
--- completion can be, the driver is in READY with radio on; before the firing, nothing is under way only in 27, where it is waited for
+-- what holds all along: at most 30 completions are accepted; once the firing has come and there is no transfer to complete, so that no
+-- further completion is accepted, the driver is in READY with radio on; before the firing, nothing is under way only in 27, where it is waited for
 pub record StartsWithin30 (n : ℕ) (f : Bool) (d : Driver) : Type 0 where
   pub bounded : n ≤ 30
-  pub arrives : f ≡ true → isIdle (d .buffers .under) ≡ true → (inNo 29 d ≡ true) × (d .flags .«radio_on» ≡ true)
-  pub waits : f ≡ false → isIdle (d .buffers .under) ≡ true → inNo 27 d ≡ true
+  pub arrives : f ≡ true → toComplete (d .buffers) ≡ false → (inNo 29 d ≡ true) × (d .flags .«radio_on» ≡ true)
+  pub waits : f ≡ false → toComplete (d .buffers) ≡ false → inNo 27 d ≡ true
 
 -- the claim, for every new driver
 abbrev pub StartupClaim : Type 0

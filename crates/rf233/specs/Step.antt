@@ -5,21 +5,27 @@ use mathlib.Core.List.{[]}
 use Rattle.rf233_const.specs.declared.register.RF233Register.{RF233Register}
 use Rattle.rf233.specs.Action.{actions}
 use Rattle.rf233.specs.Driver.{withState}
-use Rattle.rf233.specs.Starter.{refrains, registerRead, registerWrite}
+use Rattle.rf233.specs.Starter.{begun, registerRead, registerWrite}
+use Rattle.rf233.specs.Transfer.{noTransfer}
 use Rattle.rf233.specs.declared.action.Actions.{Actions}
 use Rattle.rf233.specs.declared.answer.Answer.the-variants.{Done}
 use Rattle.rf233.specs.declared.answer.Outcome.{Outcome}
 use Rattle.rf233.specs.declared.driver.Driver.{Driver}
 use Rattle.rf233.specs.declared.starter.Started.{Started}
 use Rattle.rf233.specs.declared.state.InternalState.{InternalState}
+use Rattle.rf233.specs.declared.transfer.Transfer.{Transfer}
 
--- a step that is done: what a starter left, and these actions
+-- a step that is done, of these parts
+abbrev pub doneStep : Driver → Transfer → Actions → Outcome
+doneStep d t l = record { driver = d; reply = record { answer = Done; transfer = t; actions = l } }
+
+-- the step of a starter, which its answer decides, with these actions
 abbrev pub stepOf : Started → Actions → Outcome
-stepOf s l = record { driver = s .driver; reply = record { answer = Done; transfer = s .transfer; actions = l } }
+stepOf s l = doneStep (s .driver) (begun (s .answer) (s .transfer)) l
 
 -- a step that starts nothing
 abbrev pub quiet : Driver → Actions → Outcome
-quiet d l = stepOf (refrains d) l
+quiet d l = doneStep d noTransfer l
 
 -- a register read, and the next state
 abbrev pub transitionRead : RF233Register → InternalState → Driver → Outcome

@@ -1,6 +1,7 @@
--- A transfer as it goes out, and whether one is under way.
+-- A transfer as it goes out, and the two tests of the record: whether one may begin, and whether there is one to complete.
 use Prim.Native.Nat.{ℕ}
-use mathlib.Core.Bool.{Bool, true, false}
+use mathlib.Core.Bool.{Bool, true, false, not}
+use Rattle.rf233.specs.declared.driver.Buffers.{Buffers}
 use Rattle.rf233.specs.declared.driver.Under.{Under}
 use Rattle.rf233.specs.declared.driver.Under.the-variants.{Idle, Register, FrameRead, FrameWrite}
 use Rattle.rf233.specs.declared.transfer.Transfer.{Transfer}
@@ -14,9 +15,17 @@ transferOf k w r first second wl rl =
 abbrev pub noTransfer : Transfer
 noTransfer = transferOf 0 0 0 0 0 0 0
 
--- no transfer is under way
-abbrev pub isIdle : Under → Bool
-isIdle Idle = true
-isIdle Register = false
-isIdle (FrameRead b l) = false
-isIdle (FrameWrite b l) = false
+-- a transfer is under way
+abbrev pub underWay : Under → Bool
+underWay Idle = false
+underWay Register = true
+underWay (FrameRead b l) = true
+underWay (FrameWrite b l) = true
+
+-- a starter may begin a transfer
+abbrev pub freeToStart : Buffers → Bool
+freeToStart b = not (underWay (b .under))
+
+-- there is a transfer for a completion to end; today so exactly where none may begin
+abbrev pub toComplete : Buffers → Bool
+toComplete b = underWay (b .under)

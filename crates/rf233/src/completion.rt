@@ -1,8 +1,6 @@
 // A completion, phase by phase: the buffers go back to their places, then come interrupt result, READY bookkeeping, pending interrupt,
 // waiting commit and the state's own case.
-use crate::answer::Answer;
 use crate::answer::Outcome;
-use crate::answer::Reply;
 use crate::arrived::Arrived;
 use crate::case::own_case;
 use crate::driver::Buffers;
@@ -20,6 +18,7 @@ use crate::interrupt::interrupt_state;
 use crate::record::is_held;
 use crate::state::InternalState;
 use crate::state::is_ready;
+use crate::step::done_step;
 use crate::step::state_transition_read;
 use crate::step::state_transition_write;
 use crate::write::Value;
@@ -106,14 +105,7 @@ fn falls_on(first: Outcome, next: Outcome) -> Outcome
     let shown = next.reply;
     let transfer = begins.transfer;
     let actions = shown.actions;
-    Outcome {
-        driver: driver,
-        reply: Reply {
-            answer: Answer::Done,
-            transfer: transfer,
-            actions: actions,
-        },
-    }
+    done_step(driver, transfer, actions)
 }
 
 // A waiting commit starts in READY; the step falls on into the next state's case, as the Rust's does.

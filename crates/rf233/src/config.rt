@@ -22,6 +22,7 @@ use crate::write::value_of;
 use rf233_const::register::RF233Register;
 use rf233_const::trx_state::RF233TrxCmd;
 ghost use mathlib.Core.Path.{_≡_};
+ghost use Rattle.rf233.specs.Driver.{withSettings};
 ghost use Rattle.rf233.specs.Config.{
   beginCommit,
   beginStart,
@@ -37,7 +38,6 @@ ghost use Rattle.rf233.specs.Config.{
   setPower,
   startCall,
   stopCall,
-  withSettings,
 };
 
 // From SLEEP the radio is woken; on a new driver PART_NUM is read. A starter that finds a transfer under way does nothing.

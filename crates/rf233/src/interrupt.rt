@@ -7,7 +7,7 @@ use crate::state::InternalState;
 use crate::step::state_transition_read;
 use crate::step::stay;
 use crate::step::trx_command;
-use crate::transfer::is_idle;
+use crate::transfer::free_to_start;
 use rf233_const::interrupt::InteruptFlags;
 use rf233_const::interrupt::interrupt_included;
 use rf233_const::register::RF233Register;
@@ -18,13 +18,13 @@ ghost use Rattle.rf233_const.specs.Interrupt.{interruptBit};
 ghost use Rattle.rf233.specs.Choice.{pick};
 ghost use Rattle.rf233.specs.Interrupt.{handleInterrupt, interruptState};
 
-// The firing itself: IRQ_STATUS is read, unless a transfer is under way. In RX reception is turned off first, so that the frame is not
+// The firing itself: IRQ_STATUS is read, unless none may begin now. In RX reception is turned off first, so that the frame is not
 // overwritten before it is read out.
 pub fn handle_interrupt(d: Driver) -> Outcome
     ensures { λ r. ⌜ r ≡ handleInterrupt d ⌝ }
 {
     let mut flags = d.flags;
-    if is_idle(d.buffers) {
+    if free_to_start(d.buffers) {
         let s = d.state;
         return match s {
             InternalState::RX => trx_command(d, RF233TrxCmd::PLL_ON, InternalState::RX_TURNING_OFF),

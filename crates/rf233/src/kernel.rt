@@ -13,7 +13,7 @@ use crate::pool::copy_arrived;
 use crate::pool::length_byte;
 use crate::pool::read_buffer;
 use crate::pool::shorter_length;
-use crate::transfer::is_idle;
+use crate::transfer::to_complete;
 use rf233_const::status::status_of;
 ghost use mathlib.Core.Path.{_≡_};
 ghost use Rattle.rf233.specs.Kernel.{completionCall, firedCall};
@@ -27,7 +27,7 @@ pub fn read_write_done(d: Driver, arrived: &[u8], pool: &mut [u8]) -> Outcome
         return refuse(Answer::Pool, d);
     }
     let b = d.buffers;
-    if is_idle(b) {
+    if !to_complete(b) {
         return refuse(Answer::Idle, d);
     }
     let n = arrived.len();

@@ -1,21 +1,18 @@
-// The steps of a register transfer, the Rust's two state transitions among them, and a step that starts nothing.
+// The step of a starter, which its answer decides, the Rust's two state transitions among them, and a step that starts nothing.
 use crate::action::Actions;
 use crate::action::no_actions;
 use crate::answer::Answer;
 use crate::answer::Outcome;
 use crate::answer::Reply;
 use crate::driver::Driver;
-use crate::driver::Under;
 use crate::driver::with_state;
-use crate::driver::with_under;
 use crate::starter::Started;
-use crate::starter::begin;
-use crate::starter::refrain;
+use crate::starter::begun_transfer;
+use crate::starter::register_read;
+use crate::starter::register_write;
 use crate::state::InternalState;
-use crate::transfer::is_idle;
-use crate::transfer::transfer_of;
-use rf233_const::command::register_read_command;
-use rf233_const::command::register_write_command;
+use crate::transfer::Transfer;
+use crate::transfer::no_transfer;
 use rf233_const::register::RF233Register;
 use rf233_const::trx_state::RF233TrxCmd;
 use rf233_const::trx_state::trx_cmd_number;
@@ -23,16 +20,12 @@ ghost use mathlib.Core.Path.{_≡_};
 ghost use mathlib.Core.List.{[]};
 ghost use Rattle.rf233_const.specs.TrxState.{commandValue};
 ghost use Rattle.rf233.specs.Action.{actions};
-ghost use Rattle.rf233.specs.Driver.{withState};
-ghost use Rattle.rf233.specs.Starter.{registerTransfer};
-ghost use Rattle.rf233.specs.Step.{quiet, stepOf, transitionRead, transitionWrite, withActions};
+ghost use Rattle.rf233.specs.Step.{doneStep, quiet, stepOf, transitionRead, transitionWrite, withActions};
 
-// A step that is done: what a starter left, and these actions.
-pub fn step_of(started: Started, actions: Actions) -> Outcome
-    ensures { λ r. ⌜ r ≡ stepOf started actions ⌝ }
+// A step that is done, of these parts.
+pub fn done_step(driver: Driver, transfer: Transfer, actions: Actions) -> Outcome
+    ensures { λ r. ⌜ r ≡ doneStep driver transfer actions ⌝ }
 {
-    let driver = started.driver;
-    let transfer = started.transfer;
     Outcome {
         driver: driver,
         reply: Reply {
@@ -43,11 +36,21 @@ pub fn step_of(started: Started, actions: Actions) -> Outcome
     }
 }
 
+// The step of a starter, which its answer decides, with these actions.
+pub fn step_of(started: Started, actions: Actions) -> Outcome
+    ensures { λ r. ⌜ r ≡ stepOf started actions ⌝ }
+{
+    let driver = started.driver;
+    let answer = started.answer;
+    let transfer = started.transfer;
+    done_step(driver, begun_transfer(answer, transfer), actions)
+}
+
 // A step that starts nothing, with these actions.
 pub fn quiet_step(d: Driver, actions: Actions) -> Outcome
     ensures { λ r. ⌜ r ≡ quiet d actions ⌝ }
 {
-    step_of(refrain(d), actions)
+    done_step(d, no_transfer(), actions)
 }
 
 // A step that starts nothing and shows nothing.
@@ -57,29 +60,11 @@ pub fn stay(d: Driver) -> Outcome
     quiet_step(d, no_actions())
 }
 
-// A register transfer with these two bytes, unless one is under way or a register buffer is missing; and the next state. One function
-// makes the whole outcome: the driver is copied once.
-fn register_step(d: Driver, kind: u8, first: u8, second: u8, state: InternalState) -> Outcome
-    ensures { λ r. ⌜ r ≡ stepOf (registerTransfer kind first second (withState state d)) (actions []) ⌝ }
-{
-    let b = d.buffers;
-    let free = is_idle(b) & b.spi_tx & b.spi_rx;
-    let next = with_state(d, state);
-    if free {
-        let mut taken = with_under(b, Under::Register);
-        taken.spi_tx = false;
-        taken.spi_rx = false;
-        let transfer = transfer_of(kind, 16, 17, first, second, 2, 2);
-        return step_of(begin(next, taken, transfer), no_actions());
-    }
-    stay(next)
-}
-
 // A register read, and the next state.
 pub fn state_transition_read(d: Driver, reg: RF233Register, state: InternalState) -> Outcome
     ensures { λ r. ⌜ r ≡ transitionRead reg state d ⌝ }
 {
-    register_step(d, 1, register_read_command(reg), 0, state)
+    step_of(register_read(with_state(d, state), reg), no_actions())
 }
 
 // A register write, and the next state.
@@ -91,7 +76,7 @@ pub fn state_transition_write(
 ) -> Outcome
     ensures { λ r. ⌜ r ≡ transitionWrite reg val state d ⌝ }
 {
-    register_step(d, 2, register_write_command(reg), val, state)
+    step_of(register_write(with_state(d, state), reg, val), no_actions())
 }
 
 // A command to the radio, and the next state.

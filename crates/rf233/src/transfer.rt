@@ -1,8 +1,8 @@
-// A transfer as it goes out, and whether one is under way.
+// A transfer as it goes out, and the two tests of the record: whether one may begin, and whether there is one to complete.
 use crate::driver::Buffers;
 use crate::driver::Under;
 ghost use mathlib.Core.Path.{_≡_};
-ghost use Rattle.rf233.specs.Transfer.{isIdle, noTransfer, transferOf};
+ghost use Rattle.rf233.specs.Transfer.{freeToStart, noTransfer, toComplete, transferOf, underWay};
 
 // A transfer as it goes out: document 01's kind, 1 to 4, or 0 for none; the buffer sent from and the buffer read into; the first byte
 // sent; the second byte of a register transfer, or a frame transfer's n; the lengths of the two buffers.
@@ -31,17 +31,32 @@ pub fn no_transfer() -> Transfer
     }
 }
 
-// No transfer is under way.
-pub fn is_idle(b: Buffers) -> bool
-    ensures { λ r. ⌜ r ≡ isIdle (b .under) ⌝ }
+// A transfer is under way.
+fn under_way(under: Under) -> bool
+    ensures { λ r. ⌜ r ≡ underWay under ⌝ }
+{
+    match under {
+        Under::Idle => false,
+        Under::Register => true,
+        Under::FrameRead(_, _) => true,
+        Under::FrameWrite(_, _) => true,
+    }
+}
+
+// A starter may begin a transfer.
+pub fn free_to_start(b: Buffers) -> bool
+    ensures { λ r. ⌜ r ≡ freeToStart b ⌝ }
 {
     let under = b.under;
-    match under {
-        Under::Idle => true,
-        Under::Register => false,
-        Under::FrameRead(_, _) => false,
-        Under::FrameWrite(_, _) => false,
-    }
+    !under_way(under)
+}
+
+// There is a transfer for a completion to end.
+pub fn to_complete(b: Buffers) -> bool
+    ensures { λ r. ⌜ r ≡ toComplete b ⌝ }
+{
+    let under = b.under;
+    under_way(under)
 }
 
 // A transfer of these parts.

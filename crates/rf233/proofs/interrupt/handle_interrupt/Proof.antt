@@ -10,7 +10,7 @@ returns : tie.Need-returns
 unfolding handleInterrupt pick
 returns c =
     let idle = c .before .before .before in
-    rw (rw (idle .before .is-idle .ensures) at (idle .if1 .taken), c .before .enum-told .given .1, c .trx-command .ensures)
+    rw (rw (idle .before .free-to-start .ensures) at (idle .if1 .taken), c .before .enum-told .given .1, c .trx-command .ensures)
 
 returns-2 : tie.Need-returns-2
 unfolding handleInterrupt pick
@@ -18,7 +18,7 @@ returns-2 c =
     let at = c .before .before in
     let idle = at .before in
     rw (
-      rw (idle .before .is-idle .ensures) at (idle .if1 .taken),
+      rw (idle .before .free-to-start .ensures) at (idle .if1 .taken),
       not-at 59 (idle .before .before .before .args .d .state) tt (at .match .keys2),
       c .state-transition-read .ensures,
       c .before .with-flags .ensures,
@@ -28,7 +28,7 @@ returns-3 : tie.Need-returns-3
 unfolding handleInterrupt pick
 returns-3 c =
     let busy = c .before .before in
-    rw (rw (busy .before .is-idle .ensures) at (busy .if1 .left), c .stay .ensures, c .before .with-flags2 .ensures)
+    rw (rw (busy .before .free-to-start .ensures) at (busy .if1 .left), c .stay .ensures, c .before .with-flags2 .ensures)
 
 pub handle-interrupt-spec : {M : Type 1} → statement M
 handle-interrupt-spec =

@@ -23,15 +23,15 @@ returns c = (
 returns-2 : tie.Need-returns-2
 unfolding completionCall pick
 returns-2 c =
-    let at-is-idle = c .before .before in
-    let at-if1 = at-is-idle .before .before in
+    let at-to-complete = c .before .before in
+    let at-if1 = at-to-complete .before .before in
     let at-pool-fault = at-if1 .before in (
       rw (
         rw (at-pool-fault .pool-fault .ensures) at (at-if1 .if1 .left),
-        rw (at-is-idle .is-idle .ensures) at (c .before .if2 .taken),
+        rw (at-to-complete .to-complete .ensures) at (c .before .if2 .taken),
         c .refuse2 .ensures,
       ),
-      rw (rw (at-pool-fault .pool-fault .ensures) at (at-if1 .if1 .left), rw (at-is-idle .is-idle .ensures) at (c .before .if2 .taken)),
+      rw (rw (at-pool-fault .pool-fault .ensures) at (at-if1 .if1 .left), rw (at-to-complete .to-complete .ensures) at (c .before .if2 .taken)),
     )
 
 returns-3 : tie.Need-returns-3
@@ -39,18 +39,18 @@ unfolding completionCall pick
 returns-3 c =
     let at-shorter-length = c .before .before in
     let at-if2 = at-shorter-length .before in
-    let at-is-idle = at-if2 .before in
-    let at-if1 = at-is-idle .before .before in
+    let at-to-complete = at-if2 .before in
+    let at-if1 = at-to-complete .before .before in
     let at-pool-fault = at-if1 .before in (
       rw (
         rw (at-pool-fault .pool-fault .ensures) at (at-if1 .if1 .left),
-        rw (at-is-idle .is-idle .ensures) at (at-if2 .if2 .left),
+        rw (at-to-complete .to-complete .ensures) at (at-if2 .if2 .left),
         rw (at-shorter-length .shorter-length .ensures) at (c .before .if3 .taken),
         c .refuse3 .ensures,
       ),
       rw (
         rw (at-pool-fault .pool-fault .ensures) at (at-if1 .if1 .left),
-        rw (at-is-idle .is-idle .ensures) at (at-if2 .if2 .left),
+        rw (at-to-complete .to-complete .ensures) at (at-if2 .if2 .left),
         rw (at-shorter-length .shorter-length .ensures) at (c .before .if3 .taken),
       ),
     )
@@ -82,8 +82,8 @@ shared-slice-read-status-of c =
     let counted = rw (at-shorter-length .shorter-length .ensures) at (at-if3 .if3 .left) in
     omega (arith, ltb-false n 2 (none-left (ltb n 2) (ltb (shorter (x .d .buffers)) n) counted))
 
-shared-slice-read-t28 : tie.Need-shared-slice-read-t28
-shared-slice-read-t28 c =
+shared-slice-read-t27 : tie.Need-shared-slice-read-t27
+shared-slice-read-t27 c =
     let at-if3 = c .before .before .before .before .before .before .before .before .before .before in
     let at-shorter-length = at-if3 .before in
     let start = at-shorter-length .before .before .before .before .before .before .before .before in
@@ -107,12 +107,12 @@ returns-4 c =
     let at-if3 = at-read-buffer .before .before in
     let at-shorter-length = at-if3 .before in
     let at-if2 = at-shorter-length .before in
-    let at-is-idle = at-if2 .before in
-    let at-if1 = at-is-idle .before .before in
+    let at-to-complete = at-if2 .before in
+    let at-if1 = at-to-complete .before .before in
     let at-pool-fault = at-if1 .before in (
       rw (
         rw (at-pool-fault .pool-fault .ensures) at (at-if1 .if1 .left),
-        rw (at-is-idle .is-idle .ensures) at (at-if2 .if2 .left),
+        rw (at-to-complete .to-complete .ensures) at (at-if2 .if2 .left),
         rw (at-shorter-length .shorter-length .ensures) at (at-if3 .if3 .left),
         at-finish .finish .ensures .0,
         at-complete .complete .ensures,
@@ -123,7 +123,7 @@ returns-4 c =
       ),
       rw (
         rw (at-pool-fault .pool-fault .ensures) at (at-if1 .if1 .left),
-        rw (at-is-idle .is-idle .ensures) at (at-if2 .if2 .left),
+        rw (at-to-complete .to-complete .ensures) at (at-if2 .if2 .left),
         rw (at-shorter-length .shorter-length .ensures) at (at-if3 .if3 .left),
         at-finish .finish .ensures .1,
         at-complete .complete .ensures,
@@ -153,7 +153,7 @@ read-write-done-spec =
     (λ c κs. search needs)
     shared-slice-read-status-of
     (λ c κs. search needs)
-    shared-slice-read-t28
+    shared-slice-read-t27
     (λ c κs. search needs)
     (λ c κs. search needs)
     same-length
