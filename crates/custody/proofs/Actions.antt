@@ -38,11 +38,11 @@ nothings zero m k = refl
 nothings (suc n) zero k = refl
 nothings (suc n) (suc m) k = nothings n m k
 
-pub filled : (n m : ℕ) (l : List Action) (k : Page) → length l ≤ n
+pub noted-padded : (n m : ℕ) (l : List Action) (k : Page) → length l ≤ n
     → notedAll (map item (take n (l ++ replicate m action.Nothing))) k ≡ notes l k
-filled n m [] k h = nothings n m k
-filled zero m (x ∷ l) k h = absurd (not-suc-le-zero h)
-filled (suc n) m (x ∷ l) k h = filled n m l (noted x k) (le-of-suc-le-suc h)
+noted-padded n m [] k h = nothings n m k
+noted-padded zero m (x ∷ l) k h = absurd (not-suc-le-zero h)
+noted-padded (suc n) m (x ∷ l) k h = noted-padded n m l (noted x k) (le-of-suc-le-suc h)
 
 -- an action that hands nothing back leaves the book as it is
 quietly : (x : Action) (k : Page) → T (harmless x) → noted x k ≡ k

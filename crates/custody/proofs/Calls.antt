@@ -161,7 +161,8 @@ module _ (k : Page) (d : Driver) (v : Inv k d) where
       branch (Yields completes) _ _ _ (λ y. turned completes k 12 d refl v)
       (λ y. branch (Yields completes) _ _ _ (λ z. turned completes k 11 d refl v)
       (λ z. branch (Yields completes) _ _ _ (λ w. turned completes k 13 d refl v)
-      (λ w. took completes k (completed _ d) (done-completed _ d) (completed-keeps k _ d v (not-false (toComplete (d .buffers)) (is-false (not (toComplete (d .buffers))) z))))))
+      (λ w. took completes k (completed _ d) (done-completed _ d)
+      (completed-keeps k _ d v (not-false (toComplete (d .buffers)) (is-false (not (toComplete (d .buffers))) z))))))
 
   reset-keeps : (b : Bool) → Entered other k (resetCall d b)
   unfolding resetCall

@@ -5,18 +5,17 @@ use mathlib.Core.Bool.{true, not, or-false}
 use mathlib.Core.List.{List, [], _∷_}
 use Prim.Native.Nat.{ℕ, _<_}
 use native.Mathlib.Omega.{arith}
-use lib.Dec.{T, eqb, leb, ltb}
+use lib.Dec.{eqb, leb}
 use borrow.Author.Tests.{leb-true, le-leb, eqb-true}
 use lib.ListN.{length, getD}
 use Rattle.rf233.specs.Config.{channelFits}
 use Rattle.custody.specs.Claim.{World, Event, next, run, newWorld, only, Kept, Custody}
 use Rattle.rf233.specs.Create.{newCall, newDriver}
-use Rattle.custody.specs.Book.{Page, newPage}
+use Rattle.custody.specs.Book.{newPage}
 use Rattle.rf233.specs.Place.{clientPlace, firstPlace, placeOf}
 use Rattle.rf233.specs.Choice.{within}
 use Rattle.rf233.specs.Guard.{poolFault}
 use Rattle.rf233.specs.declared.answer.Outcome.{Outcome}
-use Rattle.rf233.specs.declared.driver.Driver.{Driver}
 use Rattle.custody.proofs.Custody.{Inv}
 use Rattle.custody.proofs.Calls.{keeps}
 use Rattle.custody.proofs.Undescribed.{sound}

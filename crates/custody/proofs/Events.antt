@@ -1,7 +1,7 @@
 -- A firing and a completion keep the invariant of Custody.antt, whatever is under way, and so does a register transfer that is asked for.
 -- Assumes nothing.
 use mathlib.Core.Path.{_≡_, refl, sym, ap, subst, _∙_}
-use mathlib.Core.Bool.{Bool, true, false, not}
+use mathlib.Core.Bool.{true, false, not}
 use mathlib.Core.List.{[]}
 use Prim.Native.Nat.{ℕ}
 use lib.Dec.{T, eqb}
@@ -13,7 +13,7 @@ use Rattle.rf233.specs.Described.{txLengthBad, rxLengthBad}
 use Rattle.rf233.specs.Interrupt.{handleInterrupt}
 use Rattle.rf233.specs.Record.{txUnderWay, rxUnderWay}
 use Rattle.rf233.specs.Starter.{registerTransfer}
-use Rattle.rf233.specs.Step.{stepOf, quiet}
+use Rattle.rf233.specs.Step.{stepOf}
 use Rattle.rf233.specs.Transfer.{underWay, freeToStart, toComplete}
 use Rattle.rf233.specs.declared.arrived.Arrived.{Arrived}
 use Rattle.rf233.specs.declared.driver.Buffers.{Buffers}
@@ -25,14 +25,13 @@ use Rattle.custody.specs.Claim.{kindOf}
 use Rattle.rf233.proofs.Conditions.{by-flag}
 use Rattle.rf233.proofs.EveryStep.{completion-by}
 use Rattle.rf233.proofs.Facts.{kind, isNone, of, under, over-is}
-use Rattle.rf233.proofs.Facts.Kind.{access}
 use Rattle.rf233.proofs.Fit.{fit, joins, return-fits}
 use Rattle.rf233.proofs.OwnBuffers.{register-refrains}
 use Rattle.custody.proofs.BookLaws.{idle-is}
 use Rattle.custody.proofs.Custody.{Inv, After, Lengths}
 use Rattle.custody.proofs.Match as match
 use Rattle.custody.proofs.Match.{Match}
-use Rattle.custody.proofs.Phases.{Rest, rested, asks, fires, ends, kept}
+use Rattle.custody.proofs.Phases.{Rest, asks, fires, ends, kept}
 use Rattle.custody.proofs.Undescribed.{besides-none}
 
 -- ---- a completion

@@ -1,5 +1,5 @@
--- The driver's record and the book agree: `Match`, and each move of buffers keeps it: a transfer that begins or ends, a buffer lent or handed
--- back. From the laws of one and of two buffers; from this alone there is no fault. Assumes nothing.
+-- The driver's record and the book agree: `Match`, and each move of buffers keeps it: a transfer that begins or ends, a buffer lent or
+-- handed back. From the laws of one and of two buffers; from this alone there is no fault. Assumes nothing.
 use mathlib.Core.Path.{_≡_, refl, sym, _∙_}
 use mathlib.Core.Bool.{Bool, true, false, not, _&&_, _||_, and-true, and-false, or-false}
 use Prim.Native.Nat.{ℕ, zero, suc, _+_, _≤_, _<_}

@@ -42,7 +42,8 @@ use Rattle.rf233.proofs.EveryStep.{Kept, Ends, commits-first, every-access}
 use Rattle.rf233.proofs.Facts.{kind, isNone, of, under, entered, entered-is, prepared-is}
 use Rattle.rf233.proofs.Facts.Kind.{access}
 use Rattle.rf233.proofs.Fit.{fit, okShown, okAccess, okRow, row-fits, to-46, to-60, to-handling, to-62, to-33, to-29, to-59, to-28, to-42}
-use Rattle.custody.proofs.Actions.{notes, filled, fewer, hands}
+use Rattle.rf233.proofs.Trees.{rowOf}
+use Rattle.custody.proofs.Actions.{notes, noted-padded, fewer, hands}
 use Rattle.custody.proofs.BookLaws.{idle-is}
 use Rattle.custody.proofs.Custody.{
   Inv,
@@ -91,14 +92,16 @@ module _ (k : Page) where
       }
 
   -- a register transfer is asked for
-  pub asks : (d e : Driver) → Rest k d → e .buffers ≡ d .buffers → (n x y : ℕ) → kindOf n ≡ 1 → eqb n 0 ≡ false → T (fit (under access (of e)))
+  pub asks : (d e : Driver) → Rest k d → e .buffers ≡ d .buffers → (n x y : ℕ) → kindOf n ≡ 1 → eqb n 0 ≡ false
+      → T (fit (under access (of e)))
       → After k (stepOf (registerTransfer n x y e) (actions []))
   asks d e v q =
       register-keeps k e (subst (λ b. Match b k) (sym q) (v .inv .match)) (subst Lengths (sym q) (v .inv .lengths))
       (ap freeToStart q ∙ v .free) (actions [])
 
   -- a row that passes the test
-  perform-keeps : (a : Arrived) (d : Driver) → Rest k d → (r : Row) → T (okRow (within 11 127 (a .result)) (of d) r) → After k (perform r a d)
+  perform-keeps : (a : Arrived) (d : Driver) → Rest k d → (r : Row) → T (okRow (within 11 127 (a .result)) (of d) r)
+      → After k (perform r a d)
   unfolding perform
   perform-keeps a d v (does l x m sh) o =
       let e = entering m (assigning (a .result) l d) in
@@ -111,7 +114,8 @@ module _ (k : Page) where
       let there : T (okShown sh (of e)) =
       subst (λ z. T (okShown sh z)) (sym (entered-is (a .result) l m d)) (right (leb (length sh) 6) p few) in
       let given =
-      hands a e sh (e .buffers) k (record { tx-of = λ y. refl; rx-of = λ y. refl }) there (subst (λ b. Match b k) (sym q) (v .inv .match)) in
+      hands a e sh (e .buffers) k (record { tx-of = λ y. refl; rx-of = λ y. refl }) there
+      (subst (λ b. Match b k) (sym q) (v .inv .match)) in
       let kept =
       access-keeps (notes (shown a e sh) k) c given (handed-lengths sh (e .buffers) (subst Lengths (sym q) (v .inv .lengths)))
       (handed-free sh (e .buffers) (ap freeToStart q ∙ v .free)) y a x
@@ -120,13 +124,13 @@ module _ (k : Page) where
       let z = accessed x a y c in
       subst (λ n. Inv (with-transfer z n) (z .driver))
       (sym (ap (λ (w : Actions). notedAll (w .items) k) (every-access (λ (o : Outcome). o .reply .actions ≡ y) a y c (λ e t. refl) x)
-      ∙ filled 6 6 (shown a e sh) k (le-trans (fewer a e sh) six))) kept
+      ∙ noted-padded 6 6 (shown a e sh) k (le-trans (fewer a e sh) six))) kept
 
   own-keeps : (a : Arrived) (d : Driver) → Rest k d → After k (ownCase a d)
   unfolding caseOf
   own-keeps a d v =
-      let r = eval (treeAt (stateNo (d .state))) a d in
-      perform-keeps a d v r (subst (λ f. T (okRow f (of d) r)) (length-known a d) (row-fits a d (v .inv .fitted) (rests d v)))
+      perform-keeps a d v (rowOf a d)
+      (subst (λ f. T (okRow f (of d) (rowOf a d))) (length-known a d) (row-fits a d (v .inv .fitted) (rests d v)))
 
   -- a firing
   pub fires : (d : Driver) → Rest k d → After k (handleInterrupt d)
@@ -157,7 +161,8 @@ module _ (k : Page) where
   ends =
       record {
         fires = fires;
-        sends = λ d v s. asks d (withState «TX_STATUS_PRECHECK1» d) v refl 1 _ _ refl refl (to-33 .gives (of d) (v .inv .fitted) (rests d v) s);
+        sends = λ d v s.
+            asks d (withState «TX_STATUS_PRECHECK1» d) v refl 1 _ _ refl refl (to-33 .gives (of d) (v .inv .fitted) (rests d v) s);
         waits = λ d v. asks d (withState READY d) v refl 1 _ _ refl refl (to-29 .gives (of d) (v .inv .fitted) (rests d v) tt);
         commits = commits;
         case = own-keeps;

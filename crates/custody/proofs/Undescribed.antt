@@ -2,7 +2,6 @@
 -- Assumes nothing.
 use mathlib.Core.Path.{_≡_, refl}
 use mathlib.Core.Bool.{Bool, false, not, _&&_, _||_, and-false}
-use Prim.Native.Nat.{ℕ}
 use lib.Dec.{T, eqb, ltb}
 use Rattle.custody.specs.Book.{Page}
 use Rattle.rf233.specs.Record.{isHeld}

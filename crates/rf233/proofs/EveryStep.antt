@@ -4,7 +4,6 @@
 use mathlib.Core.Path.{_≡_, refl}
 use mathlib.Core.List.{[]}
 use lib.Dec.{T}
-use Prim.Native.Nat.{ℕ}
 use Rattle.rf233_const.specs.declared.register.RF233Register.the-variants.{MIN, «TRX_STATUS», «SHORT_ADDR_0»}
 use Rattle.rf233.specs.Action.{actions}
 use Rattle.rf233.specs.Case.{accessed, ownCase}

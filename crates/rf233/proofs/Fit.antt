@@ -1,48 +1,28 @@
 -- What every driver that was new meets, beyond what refusal 12 asks (`fit`), over one record of the facts that steer it, and what follows
 -- from it by computing over all 69 states. Assumes nothing.
 use Prim.Native.Nat.{ℕ, _<_}
-use mathlib.Core.Path.{_≡_, refl, sym, subst, _∙_}
-use mathlib.Core.Bool.{Bool, true, false, not, _&&_, _||_, cond}
+use mathlib.Core.Bool.{Bool, true, false, not, _&&_, _||_}
 use mathlib.Core.List.{List, [], _∷_}
 use lib.Dec.{T, eqb, leb, ltb, ltb→lt}
 use lib.ListN.{length}
-use Rattle.rf233.specs.Choice.{pick, oneOf}
-use Rattle.rf233.specs.Completion.{frameDone}
-use Rattle.rf233.specs.Driver.{Flag, Assignment, flagNo, flag}
-use Rattle.rf233.specs.Driver.Flag.{
-  radioOn,
-  transmitting,
-  receiving,
-  crcValid,
-  interruptHandling,
-  interruptPending,
-  configPending,
-  sleepPending,
-  wakePending,
-  powerClientPending,
-}
-use Rattle.rf233.specs.Driver.Assignment.{put, putCrc}
-use Rattle.rf233.specs.Rows.{Access, Shown, Next, Row, Tree, holds, eval}
 use Rattle.rf233.specs.Case.{trees, treeAt}
-use Rattle.rf233.specs.Rows.Test.{statusIn, lengthFits, isSet, listens}
+use Rattle.rf233.specs.Choice.{oneOf}
+use Rattle.rf233.specs.Driver.{flag}
+use Rattle.rf233.specs.Driver.Flag.{transmitting}
+use Rattle.rf233.specs.Rows.{Access, Shown, Row, holds}
 use Rattle.rf233.specs.Rows.Access.{none, reads, writes, readsLength, readsFrame, writesFrame}
-use Rattle.rf233.specs.Rows.Shown.{plain, powerChanged, configDone, sentBack, droppedBack, receivedBack}
-use Rattle.rf233.specs.Rows.Next.{same, to}
 use Rattle.rf233.specs.Rows.Row.{does}
-use Rattle.rf233.specs.Rows.Tree.{leaf, ask}
-use Rattle.rf233.specs.Record.{isHeld}
+use Rattle.rf233.specs.Rows.Shown.{plain, powerChanged, configDone, sentBack, droppedBack, receivedBack}
+use Rattle.rf233.specs.Rows.Test.{lengthFits}
 use Rattle.rf233.specs.State.{stateNo, stateFrame}
 use Rattle.rf233.specs.declared.action.Action.{Action}
 use Rattle.rf233.specs.declared.action.Action.the-variants as action
 use Rattle.rf233.specs.declared.arrived.Arrived.{Arrived}
 use Rattle.rf233.specs.declared.driver.Driver.{Driver}
-use Rattle.rf233.specs.declared.driver.Under.{Under}
-use Rattle.rf233.specs.declared.state.InternalState.{InternalState}
-use Rattle.rf233.specs.declared.driver.Under.the-variants.{Idle, Register, FrameRead, FrameWrite}
-use Rattle.laws.proofs.Logic.{left, right, pair, imp, apply, all, all-at, all-below, below-at}
-use Rattle.rf233.proofs.ChoiceLaws.{branch}
+use Rattle.laws.proofs.Logic.{left, right, imp, apply, all, all-at, all-below, below-at}
 use Rattle.rf233.proofs.Facts.{Kind, kind, isNone, frameOf, Facts, facts, of, under, at, holding, flags, entered, prepared, back}
 use Rattle.rf233.proofs.Facts.Kind.{nothing, access, reading, writing}
+use Rattle.rf233.proofs.Trees.{leaves, row-at, rowOf, known, known-so}
 
 -- states 33 and 35 to 43 have the transmit buffer in its place; 62, 64 and 66 to 68 the receive buffer
 abbrev pub met : Facts → Bool
@@ -181,91 +161,20 @@ okAccess writesFrame f c = c .tx && fit (holding false (c .rx) (under writing c)
 abbrev pub okRow : Bool → Facts → Row → Bool
 okRow f c (does l x m sh) = (leb (length sh) 6 && okShown sh (entered l m c)) && okAccess x f (prepared l m sh c)
 
--- each leaf that can be reached where `transmitting` is as the facts say and whether the length is in its range is f
-abbrev okTree : Bool → Facts → Tree → Bool
-okTree f c (leaf x) = okRow f c x
-okTree f c (ask (statusIn l) u v) = okTree f c u && okTree f c v
-okTree f c (ask lengthFits u v) = okTree true c u && okTree false c v
-okTree f c (ask (isSet g) u v) =
-    cond (eqb (flagNo g) (flagNo transmitting)) (cond (c .sends) (okTree f c u) (okTree f c v)) (okTree f c u && okTree f c v)
-okTree f c (ask (listens l) u v) = okTree f c u && okTree f c v
-
 -- THE TEST OF THE 69 ROWS: each state's case leads to rows that leave what fits
-all-rows : Follows resting always (λ c. okTree false c (treeAt (c .state)))
+all-rows : Follows resting always (λ c. all λ f. leaves (known f (c .sends)) (okRow f c) (treeAt (c .state)))
 unfolding fit treeAt trees
 all-rows = law tt
 
--- the flag of `transmitting`'s number
-is-transmitting : (d : Driver) (g : Flag) → T (eqb (flagNo g) (flagNo transmitting)) → flag g (d .flags) ≡ flag transmitting (d .flags)
-is-transmitting d radioOn e = absurd e
-is-transmitting d transmitting e = refl
-is-transmitting d receiving e = absurd e
-is-transmitting d crcValid e = absurd e
-is-transmitting d interruptHandling e = absurd e
-is-transmitting d interruptPending e = absurd e
-is-transmitting d configPending e = absurd e
-is-transmitting d sleepPending e = absurd e
-is-transmitting d wakePending e = absurd e
-is-transmitting d powerClientPending e = absurd e
-
--- the choice that a flag x makes, which is s where e says so
-asked : (P : Row → Bool) (e s x a b : Bool) (p q : Row) → (T e → x ≡ s) → T (cond e (cond s a b) (a && b))
-    → (T a → T (P p)) → (T b → T (P q)) → T (P (pick x p q))
-unfolding pick
-asked P true true true a b p q h t f g = f t
-asked P true true false a b p q h t f g = absurd (subst T (sym (h tt)) tt)
-asked P true false true a b p q h t f g = absurd (subst T (h tt) tt)
-asked P true false false a b p q h t f g = g t
-asked P false s true a b p q h t f g = f (left a b t)
-asked P false s false a b p q h t f g = g (right a b t)
-
--- a row that is right where nothing is known of the length is right where something is
-more : (x : Access) (c : Facts) (f g : Bool) → (T f → T g) → T (okAccess x f c) → T (okAccess x g c)
-more none c f g i o = o
-more (reads x) c f g i o = o
-more (writes x v) c f g i o = o
-more readsLength c f g i o = o
-more readsFrame c f g i o = pair g _ (i (left f _ o)) (right f _ o)
-more writesFrame c f g i o = o
-
-row-more : (c : Facts) (f g : Bool) (x : Row) → (T f → T g) → T (okRow f c x) → T (okRow g c x)
-row-more c f g (does l x m sh) i o =
-    let s = leb (length sh) 6 && okShown sh (entered l m c) in
-    pair s _ (left s _ o) (more x (prepared l m sh c) f g i (right s _ o))
-
--- what a tree asks of a flag
-set-is : (a : Arrived) (d : Driver) (g : Flag) → holds (isSet g) a d ≡ flag g (d .flags)
-unfolding holds
-set-is a d g = refl
-
--- a tree that passes the test leads to a row that does
-module _ (a : Arrived) (d : Driver) where
-  abbrev leads-to : Row → Bool
-  leads-to x = okRow (holds lengthFits a d) (of d) x
-
-  abbrev passes : Bool → Tree → Bool
-  passes f u = okTree f (of d) u
-
-  lift : (u : Tree) (f : Bool) → (T f → T (holds lengthFits a d)) → T (passes f u) → T (leads-to (eval u a d))
-  unfolding eval
-  lift (leaf x) f i o = row-more (of d) f (holds lengthFits a d) x i o
-  lift (ask (statusIn l) u v) f i o =
-      branch (λ z. T (leads-to z)) (holds (statusIn l) a d) (eval u a d) (eval v a d)
-      (λ y. lift u f i (left (passes f u) (passes f v) o)) (λ y. lift v f i (right (passes f u) (passes f v) o))
-  lift (ask lengthFits u v) f i o =
-      branch (λ z. T (leads-to z)) (holds lengthFits a d) (eval u a d) (eval v a d)
-      (λ y. lift u true (λ z. y) (left (passes true u) (passes false v) o))
-      (λ y. lift v false (λ z. absurd z) (right (passes true u) (passes false v) o))
-  lift (ask (isSet g) u v) f i o =
-      asked leads-to (eqb (flagNo g) (flagNo transmitting)) (flag transmitting (d .flags)) (holds (isSet g) a d) (passes f u) (passes f v)
-      (eval u a d) (eval v a d) (λ y. set-is a d g ∙ is-transmitting d g y) o (lift u f i) (lift v f i)
-  lift (ask (listens c) u v) f i o =
-      branch (λ z. T (leads-to z)) (holds (listens c) a d) (eval u a d) (eval v a d)
-      (λ y. lift u f i (left (passes f u) (passes f v) o)) (λ y. lift v f i (right (passes f u) (passes f v) o))
-
-  -- at every state and whatever arrives
-  pub row-fits : T (fit (of d)) → T (isNone (kind (d .buffers .under))) → T (leads-to (eval (treeAt (stateNo (d .state))) a d))
-  row-fits o i = lift (treeAt (stateNo (d .state))) false (λ z. absurd z) (all-rows .gives (of d) o i tt)
+-- at every state and whatever arrives
+pub row-fits : (a : Arrived) (d : Driver) → T (fit (of d)) → T (isNone (kind (d .buffers .under)))
+    → T (okRow (holds lengthFits a d) (of d) (rowOf a d))
+row-fits a d o i =
+    let u = treeAt (stateNo (d .state)) in
+    let f = holds lengthFits a d in
+    let s = flag transmitting (d .flags) in
+    row-at (known f s) (okRow f (of d)) a d (known-so a d) u
+    (all-at (λ f. leaves (known f s) (okRow f (of d)) u) (all-rows .gives (of d) o i tt) f)
 
 -- The phases of a completion, and the calls, each by the same test.
 

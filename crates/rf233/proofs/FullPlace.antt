@@ -18,14 +18,11 @@ use Rattle.laws.proofs.Logic.{
   none-right,
   imp,
   apply,
-  all,
-  all-at,
   all-below,
-  below-at,
 }
 use Rattle.rf233.specs.Case.{ownCase, trees, treeAt}
 use Rattle.rf233.specs.Choice.{oneOf}
-use Rattle.rf233.specs.Completion.{buffersBack, transferOver, completed}
+use Rattle.rf233.specs.Completion.{transferOver, completed}
 use Rattle.rf233.specs.Described.{
   recordedTwice,
   ownNowhere,
@@ -39,11 +36,10 @@ use Rattle.rf233.specs.Described.{
 }
 use Rattle.rf233.specs.Interrupt.{interruptState}
 use Rattle.rf233.specs.Record.{isHeld}
-use Rattle.rf233.specs.Rows.{Access, Shown, Row, Tree, eval}
+use Rattle.rf233.specs.Rows.{Access, Shown, Row}
 use Rattle.rf233.specs.Rows.Access.{none, reads, writes, readsLength, readsFrame, writesFrame}
 use Rattle.rf233.specs.Rows.Row.{does}
 use Rattle.rf233.specs.Rows.Shown.{plain, powerChanged, configDone, sentBack, droppedBack, receivedBack}
-use Rattle.rf233.specs.Rows.Tree.{leaf, ask}
 use Rattle.rf233.specs.State.{stateNo, stateFrame}
 use Rattle.rf233.specs.declared.answer.Outcome.{Outcome}
 use Rattle.rf233.specs.declared.arrived.Arrived.{Arrived}
@@ -55,7 +51,9 @@ use Rattle.rf233.specs.declared.state.InternalState.{InternalState}
 use Rattle.rf233.proofs.ChoiceLaws.{either}
 use Rattle.rf233.proofs.EveryStep.{OfSteps, Kept, silent-ends, completion-by}
 use Rattle.rf233.proofs.Facts.{Facts, kind, frameOf, of, back, over-is}
-use Rattle.rf233.proofs.Fit.{framed, any, all-facts, facts-at}
+use Rattle.rf233.proofs.Fit as fit
+use Rattle.rf233.proofs.Fit.{framed, all-facts, facts-at}
+use Rattle.rf233.proofs.Trees.{leaves, any, rowOf, row-of}
 use Rattle.rf233.proofs.Keys.{state-below}
 
 -- what a row takes: from the transmit place by a sent or dropped buffer or a frame write, from the receive place by a received buffer or a
@@ -110,25 +108,10 @@ namedRx n = oneOf (62 ∷ 64 ∷ 68 ∷ []) n
 abbrev rowTakes : ℕ → Row → Bool
 rowTakes n x = imp (takesTx x) (namedTx n) && imp (takesRx x) (namedRx n)
 
-abbrev treeTakes : ℕ → Tree → Bool
-treeTakes n (leaf x) = rowTakes n x
-treeTakes n (ask t u v) = treeTakes n u && treeTakes n v
-
 -- THE TEST OF THE ROWS: they take buffers in no other states
-rows-take : T (all-below (λ n. treeTakes n (treeAt n)) 69)
+rows-take : T (all-below (λ n. leaves any (rowTakes n) (treeAt n)) 69)
 unfolding treeAt trees
 rows-take = tt
-
-leads : (n : ℕ) (a : Arrived) (d : Driver) (u : Tree) → T (treeTakes n u) → T (rowTakes n (eval u a d))
-unfolding eval
-leads n a d (leaf x) t = t
-leads n a d (ask c u v) t =
-    either (λ x. T (rowTakes n x)) _ _ _ (leads n a d u (left (treeTakes n u) (treeTakes n v) t))
-    (leads n a d v (right (treeTakes n u) (treeTakes n v) t))
-
--- the row that the case of the driver's state carries out
-abbrev pub rowOf : Arrived → Driver → Row
-rowOf a d = eval (treeAt (stateNo (d .state))) a d
 
 -- each place that the row takes a buffer from is full
 pub record Full (x : Row) (d : Driver) : Type 0 where
@@ -154,7 +137,7 @@ full a d h =
     let x = rowOf a d in
     let t = isHeld (d .buffers .«tx_buf») in
     let r = isHeld (d .buffers .«rx_buf») in
-    let takes = leads n a d (treeAt n) (below-at (λ n. treeTakes n (treeAt n)) 69 rows-take n (state-below (d .state))) in
+    let takes = row-of rowTakes rows-take a d in
     record {
       transmit =
           λ y. asked-full (namedTx n) t (nor-left (namedTx n && not t) (namedRx n && not r) h)
@@ -185,7 +168,7 @@ abbrev returnTest : Facts → Bool
 returnTest c = imp (not (ltb 0 (frameOf (c .transfer)) && c .handles)) (imp (not (gone c)) (not (gone (back c))))
 
 -- THE TEST OF THE RETURN
-return-keeps : T (all-below (all-facts any returnTest) 69)
+return-keeps : T (all-below (all-facts fit.any returnTest) 69)
 return-keeps = tt
 
 frame-number : (u : Under) → frameOf (kind u) ≡ frameNo u
@@ -228,7 +211,7 @@ module _ (d : Driver) (e : described d ≡ false) where
       subst (λ c. T (not (gone c))) (sym (over-is d))
       (apply (not (gone c)) (not (gone (back c)))
       (apply (not (ltb 0 (frameOf (kind (b .under))) && h)) _
-      (facts-at any returnTest return-keeps c (state-below (d .state)) tt framed-so) clear) found)
+      (facts-at fit.any returnTest return-keeps c (state-below (d .state)) tt framed-so) clear) found)
 
 -- whatever holds of steps that carry no row out, and of a row carried out with its places full, holds of every completion of a driver value
 -- that 12 does not describe

@@ -5,6 +5,7 @@ pub mod Answers
 pub mod Keys
 pub mod Tables
 pub mod ChoiceLaws
+pub mod Trees
 pub mod Facts
 pub mod Fit
 pub mod EveryStep

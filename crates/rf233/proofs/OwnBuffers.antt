@@ -1,6 +1,6 @@
 -- The own buffers of a driver that refusal 12 does not describe: each is in its own place where no transfer has it, and only there; what
 -- of the driver may change without 12 coming to describe it; a new driver. Assumes nothing.
-use mathlib.Core.Path.{_≡_, refl, sym, ap, _∙_}
+use mathlib.Core.Path.{_≡_, refl, sym, _∙_}
 use mathlib.Core.Bool.{Bool, true, false, not, _&&_, _||_, and-false}
 use mathlib.Core.List.{[], _∷_}
 use Prim.Native.Nat.{ℕ, _≤_, _<_}
@@ -18,7 +18,6 @@ use Rattle.rf233.specs.declared.driver.Buffers.{Buffers}
 use Rattle.rf233.specs.declared.driver.Driver.{Driver}
 use Rattle.rf233.specs.declared.driver.Slot.{Slot}
 use Rattle.rf233.specs.declared.driver.Slot.the-variants.{Empty, Held}
-use Rattle.rf233.specs.declared.driver.Under.{Under}
 use Rattle.rf233.specs.declared.driver.Under.the-variants.{Register, FrameRead}
 use Rattle.laws.proofs.Logic.{none-left, none-right, both-left}
 

@@ -1,7 +1,7 @@
 -- What refusal 12 describes, place by place as `is_described` asks it instead of clause by clause: `regrouped`, from `uncounted` and the
 -- law of tests that are grouped otherwise, which computes that the same tests are asked. Assumes nothing.
 use Prim.Native.Nat.{ℕ, _+_}
-use mathlib.Core.Path.{_≡_, refl, sym, _∙_}
+use mathlib.Core.Path.{_≡_, sym, _∙_}
 use mathlib.Core.Bool.{Bool, false, not, _&&_, _||_, and-false, or-true, or-false}
 use mathlib.Core.List.{List, [], _∷_}
 use lib.Dec.{eqb, ltb}

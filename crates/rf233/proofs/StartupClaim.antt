@@ -8,7 +8,7 @@ use native.Mathlib.Omega.{arith}
 use native.Mathlib.Nat.{le-antisymm, lt-irrefl, lt-of-not-le}
 use native.Mathlib.Decide.{decLe}
 use lib.Dec.{T, eqb, leb, leb→le, eqb→eq}
-use borrow.Author.Tests.{eqb-true, eqb-false, le-leb, not-true, not-false}
+use borrow.Author.Tests.{eqb-true, eqb-false, le-leb, not-true}
 use lib.ListN.{getD}
 use Rattle.rf233_const.specs.Bits.{bitSet}
 use Rattle.rf233.specs.Choice.{pick, oneOf}
@@ -28,7 +28,6 @@ use Rattle.rf233.specs.Transfer.{toComplete}
 use Rattle.rf233.specs.Starter.{registerTransfer}
 use Rattle.rf233.specs.declared.arrived.Arrived.{Arrived}
 use Rattle.rf233.specs.declared.driver.Driver.{Driver}
-use Rattle.rf233.specs.declared.driver.Slot.the-variants.{Empty}
 use Rattle.rf233.specs.declared.driver.Under.the-variants.{Idle, Register}
 use Rattle.rf233.specs.declared.state.InternalState.{InternalState}
 use Rattle.laws.proofs.Logic.{both-left, both-right}

@@ -2,7 +2,7 @@
 -- is recorded twice exactly if it stands twice in the list of those that the places name, however many places there are (`clients`), and
 -- an own buffer once exactly if it is in its own place while no transfer has it. Assumes nothing.
 use Prim.Native.Nat.{ℕ, zero, suc, _+_, _<_}
-use mathlib.Core.Path.{_≡_, refl, sym, ap, subst}
+use mathlib.Core.Path.{_≡_, refl, ap, subst}
 use mathlib.Core.Bool.{Bool, true, false, not, _&&_, _||_, and-true, and-false, or-true, or-false, or-assoc}
 use mathlib.Core.List.{List, [], _∷_, _++_}
 use native.Mathlib.Omega.{arith}

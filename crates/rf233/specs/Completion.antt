@@ -7,7 +7,8 @@ use lib.Dec.{eqb}
 use Rattle.rf233_const.specs.declared.register.RF233Register.the-variants.{MIN, «TRX_STATUS», «SHORT_ADDR_0»}
 use Rattle.rf233.specs.Case.{ownCase}
 use Rattle.rf233.specs.Choice.{pick, oneOf}
-use Rattle.rf233.specs.Driver.{flag, flagged, assigning, withState, withBuffers, withRegisters, withSpiBuf, withTx, withRx, withUnder, inNo}
+use Rattle.rf233.specs.Driver.{flag, flagged, assigning, withState, withBuffers, inNo}
+use Rattle.rf233.specs.Driver.{withRegisters, withSpiBuf, withTx, withRx, withUnder}
 use Rattle.rf233.specs.Driver.Assignment.{put}
 use Rattle.rf233.specs.Driver.Flag.{
   radioOn,

@@ -1,7 +1,7 @@
 -- What refusal 12 describes of a driver value (document 01, "Who can cause which refusal"), clause by clause.
 use Prim.Native.Nat.{ℕ, zero, suc, _+_}
 use mathlib.Core.Bool.{Bool, false, not, _&&_, _||_}
-use mathlib.Core.List.{List, [], _∷_, _++_}
+use mathlib.Core.List.{List, [], _∷_}
 use lib.Dec.{eqb, ltb}
 use Rattle.rf233.specs.Choice.{oneOf, within}
 use Rattle.rf233.specs.Record.{isHeld, one, countOf, recordHas, txUnderWay, rxUnderWay}

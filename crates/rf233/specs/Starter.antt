@@ -1,7 +1,7 @@
 -- The starters of document 01's four transfers: what each sends, its lengths, the buffers that it takes, and its answer: that it began, or
 -- found a transfer under way. One that lacks a buffer, which 12 describes, answers as if one were under way.
 use Prim.Native.Nat.{ℕ, _+_}
-use mathlib.Core.Bool.{true, false, _&&_}
+use mathlib.Core.Bool.{false, _&&_}
 use Rattle.rf233_const.specs.Command as command
 use Rattle.rf233_const.specs.Register.{registerAddress}
 use Rattle.rf233_const.specs.declared.register.RF233Register.{RF233Register}

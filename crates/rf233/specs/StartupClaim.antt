@@ -43,7 +43,7 @@ pub data Starting (l c : ℕ) : ℕ → Bool → Driver → Type 0 where
       → Starting l c n f (after (firedCall d p))
 
 -- what holds all along: at most 30 completions are accepted; once the firing has come and there is no transfer to complete, so that no
--- further completion is accepted, the driver is in READY with radio on; before the firing, nothing is under way only in 27, where it is waited for
+-- further completion is accepted, the driver is in READY with radio on; before the firing there is none only in 27, where it is waited for
 pub record StartsWithin30 (n : ℕ) (f : Bool) (d : Driver) : Type 0 where
   pub bounded : n ≤ 30
   pub arrives : f ≡ true → toComplete (d .buffers) ≡ false → (inNo 29 d ≡ true) × (d .flags .«radio_on» ≡ true)

@@ -5,8 +5,8 @@ use crate::answer::Answer;
 use crate::answer::Outcome;
 use crate::answer::refuse;
 use crate::driver::Driver;
-use crate::driver::Settings;
 use crate::driver::with_flags;
+use crate::driver::with_settings;
 use crate::guard::finish;
 use crate::guard::pool_fault;
 use crate::power::power_fits;
@@ -22,7 +22,6 @@ use crate::write::value_of;
 use rf233_const::register::RF233Register;
 use rf233_const::trx_state::RF233TrxCmd;
 ghost use mathlib.Core.Path.{_≡_};
-ghost use Rattle.rf233.specs.Driver.{withSettings};
 ghost use Rattle.rf233.specs.Config.{
   beginCommit,
   beginStart,
@@ -190,15 +189,6 @@ pub fn busy(d: Driver) -> bool
         InternalState::READY | InternalState::SLEEP => false,
         _ => true,
     }
-}
-
-// The driver with other settings.
-fn with_settings(d: Driver, settings: Settings) -> Driver
-    ensures { λ r. ⌜ r ≡ withSettings settings d ⌝ }
-{
-    let mut next = d;
-    next.settings = settings;
-    next
 }
 
 // The short address.

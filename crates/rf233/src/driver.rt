@@ -1,7 +1,7 @@
 // The driver as a value: what the Rust keeps in cells, and where each buffer is.
 use crate::state::InternalState;
 ghost use mathlib.Core.Path.{_≡_};
-ghost use Rattle.rf233.specs.Driver.{withBuffers, withFlags, withRx, withState, withTx, withUnder};
+ghost use Rattle.rf233.specs.Driver.{withBuffers, withFlags, withRx, withSettings, withState, withTx, withUnder};
 
 // The Rust's cells of a bool, under its names. Its `spi_busy` is here the record of the transfer under way.
 pub struct Flags {
@@ -86,6 +86,15 @@ pub(crate) fn with_flags(d: Driver, flags: Flags) -> Driver
 {
     let mut next = d;
     next.flags = flags;
+    next
+}
+
+// The driver with other settings.
+pub(crate) fn with_settings(d: Driver, settings: Settings) -> Driver
+    ensures { λ r. ⌜ r ≡ withSettings settings d ⌝ }
+{
+    let mut next = d;
+    next.settings = settings;
     next
 }
 

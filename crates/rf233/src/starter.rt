@@ -29,7 +29,7 @@ ghost use Rattle.rf233.specs.Starter.{
   registerWrite,
 };
 
-// A starter's answer: it began its transfer, or found one under way. One that lacks a buffer, which 12 describes, answers likewise.
+// A starter's answer: it began its transfer, or found one under way. One that lacks a buffer, which 12 describes, answers as if one were.
 pub enum StarterAnswer {
     Began,
     UnderWay,

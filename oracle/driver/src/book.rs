@@ -80,10 +80,22 @@ impl Book {
         }
     }
 
+    /// A client's place takes one buffer, so a second one is a fault.
     fn brought(&mut self, buffer: u64, place: Place) -> bool {
         self.accepted += 1;
+        let full = self.occupied(place) > 0;
         let buffer = usize::try_from(buffer).unwrap_or(BUFFERS);
-        buffer >= CLIENT_BUFFERS || self.moved(buffer, Place::Client, place)
+        full | (buffer >= CLIENT_BUFFERS || self.moved(buffer, Place::Client, place))
+    }
+
+    /// The buffers at a client's place, with the one that the transfer under way took from there.
+    fn occupied(&self, place: Place) -> usize {
+        let there = self.places.iter().filter(|at| **at == place).count();
+        let away = self.transfer.is_some_and(|(kind, _, _)| {
+            let (write, read) = origins(kind);
+            write == place || read == place
+        });
+        there + usize::from(away)
     }
 
     /// The transfer under way ends: its buffers go where they came from.
@@ -232,5 +244,20 @@ mod tests {
         );
         assert!(!book.enter(&Call::Start, Answer::Done, &[], Some(&register)));
         assert!(book.enter(&Call::Start, Answer::Done, &[], Some(&register)));
+    }
+
+    #[test]
+    fn a_place_takes_one_buffer() {
+        let receive = |buffer| Call::SetReceiveBuffer {
+            buffer,
+            length: 160,
+        };
+        let read = transfer(Kind::FrameRead, 18, 3);
+        let mut book = Book::default();
+        assert!(!book.enter(&receive(3), Answer::Done, &[], None));
+        assert!(book.clone().enter(&receive(5), Answer::Done, &[], None));
+        assert!(!book.clone().enter(&TRANSMIT, Answer::Done, &[], None));
+        assert!(!book.enter(&Call::Start, Answer::Done, &[], Some(&read)));
+        assert!(book.enter(&receive(5), Answer::Done, &[], None));
     }
 }

@@ -31,7 +31,10 @@ returns-2 c =
         rw (at-to-complete .to-complete .ensures) at (c .before .if2 .taken),
         c .refuse2 .ensures,
       ),
-      rw (rw (at-pool-fault .pool-fault .ensures) at (at-if1 .if1 .left), rw (at-to-complete .to-complete .ensures) at (c .before .if2 .taken)),
+      rw (
+        rw (at-pool-fault .pool-fault .ensures) at (at-if1 .if1 .left),
+        rw (at-to-complete .to-complete .ensures) at (c .before .if2 .taken),
+      ),
     )
 
 returns-3 : tie.Need-returns-3
