@@ -1,12 +1,12 @@
 -- Refusal 12 describes no driver that meets the invariant of Custody.antt: from a new driver it is given only for the pool's length.
 -- Assumes nothing.
-use mathlib.Core.Path.{_≡_, refl}
+use mathlib.Core.Path.{_≡_}
 use mathlib.Core.Bool.{Bool, false, not, _&&_, _||_, and-false}
 use lib.Dec.{T, eqb, ltb}
 use Rattle.custody.specs.Book.{Page}
 use Rattle.rf233.specs.Record.{isHeld}
 use Rattle.rf233.specs.Record as rec
-use Rattle.rf233.specs.Described.{lengthBad, heldBesides, described, frameNo, bufferMissing}
+use Rattle.rf233.specs.Described.{lengthBad, heldBesides, described, bufferMissing}
 use Rattle.rf233.specs.State.{stateNo, stateFrame}
 use Rattle.rf233.specs.declared.driver.Buffers.{Buffers}
 use Rattle.rf233.specs.declared.driver.Driver.{Driver}
@@ -14,7 +14,7 @@ use Rattle.rf233.specs.declared.driver.Under.{Under}
 use Rattle.rf233.specs.declared.driver.Under.the-variants.{Idle, Register, FrameRead, FrameWrite}
 use Rattle.laws.proofs.Logic.{left, right, is-true, is-false}
 use Rattle.custody.proofs.Custody.{Inv, Lengths}
-use Rattle.rf233.proofs.Facts.{kind, frameOf, of}
+use Rattle.rf233.proofs.Facts.{kind, frameOf, frame-no, of}
 use Rattle.rf233.proofs.Fit.{fit, rx-empty, tx-empty, fit-frame, fit-places}
 use Rattle.custody.proofs.Match.{once, somewhere}
 
@@ -34,12 +34,6 @@ besides-none d o =
 
 lengths-good : (b : Buffers) → Lengths b → lengthBad b ≡ false
 lengths-good b g = rw (g .whole, g .present, g .tx, g .tx-under, g .rx, g .rx-under)
-
-frame-no : (u : Under) → frameNo u ≡ frameOf (kind u)
-frame-no Idle = refl
-frame-no Register = refl
-frame-no (FrameRead c l) = refl
-frame-no (FrameWrite c l) = refl
 
 -- from a new driver 12 is given only for the pool's length
 pub sound : (k : Page) (d : Driver) → Inv k d → described d ≡ false

@@ -10,6 +10,7 @@ use Rattle.rf233_const.specs.Flags.{rxCrcValidBit}
 use Rattle.rf233.specs.Case.{handed, entering, withoutTx, withoutRx}
 use Rattle.rf233.specs.Choice.{pick}
 use Rattle.rf233.specs.Completion.{buffersBack, frameDone, transferOver}
+use Rattle.rf233.specs.Described.{frameNo}
 use Rattle.rf233.specs.Driver.{Flag, Assignment, flagNo, flag, setFlag, assigning, withFlags, withBuffers}
 use Rattle.rf233.specs.Driver.Assignment.{put, putCrc}
 use Rattle.rf233.specs.Driver.Flag.{transmitting, interruptHandling, crcValid}
@@ -45,6 +46,13 @@ frameOf nothing = 0
 frameOf access = 0
 frameOf reading = 1
 frameOf writing = 2
+
+-- the number that refusal 12 asks of the frame transfer
+pub frame-no : (u : Under) → frameNo u ≡ frameOf (kind u)
+frame-no Idle = refl
+frame-no Register = refl
+frame-no (FrameRead c l) = refl
+frame-no (FrameWrite c l) = refl
 
 -- the control facts: the kind of transfer under way, the state's number, whether the transmit and the receive place are full, whether the
 -- driver is transmitting and whether it handles an interrupt

@@ -3,7 +3,7 @@
 -- `bufferIn Empty`, and no frame transfer lacks its buffer. From one test over the rows of all states (`rows-take`), and one over states
 -- and kinds of transfer for the return of the buffers (`return-keeps`). Assumes nothing.
 use Prim.Native.Nat.{ℕ}
-use mathlib.Core.Path.{_≡_, refl, sym, subst}
+use mathlib.Core.Path.{_≡_, sym, subst}
 use mathlib.Core.Bool.{Bool, true, false, not, _&&_, _||_}
 use mathlib.Core.List.{List, [], _∷_}
 use lib.Dec.{T, eqb, ltb}
@@ -45,12 +45,10 @@ use Rattle.rf233.specs.declared.answer.Outcome.{Outcome}
 use Rattle.rf233.specs.declared.arrived.Arrived.{Arrived}
 use Rattle.rf233.specs.declared.driver.Buffers.{Buffers}
 use Rattle.rf233.specs.declared.driver.Driver.{Driver}
-use Rattle.rf233.specs.declared.driver.Under.{Under}
-use Rattle.rf233.specs.declared.driver.Under.the-variants.{Idle, Register, FrameRead, FrameWrite}
 use Rattle.rf233.specs.declared.state.InternalState.{InternalState}
 use Rattle.rf233.proofs.ChoiceLaws.{either}
 use Rattle.rf233.proofs.EveryStep.{OfSteps, Kept, silent-ends, completion-by}
-use Rattle.rf233.proofs.Facts.{Facts, kind, frameOf, of, back, over-is}
+use Rattle.rf233.proofs.Facts.{Facts, kind, frameOf, frame-no, of, back, over-is}
 use Rattle.rf233.proofs.Fit as fit
 use Rattle.rf233.proofs.Fit.{framed, all-facts, facts-at}
 use Rattle.rf233.proofs.Trees.{leaves, any, rowOf, row-of}
@@ -171,12 +169,6 @@ returnTest c = imp (not (ltb 0 (frameOf (c .transfer)) && c .handles)) (imp (not
 return-keeps : T (all-below (all-facts fit.any returnTest) 69)
 return-keeps = tt
 
-frame-number : (u : Under) → frameOf (kind u) ≡ frameNo u
-frame-number Idle = refl
-frame-number Register = refl
-frame-number (FrameRead c l) = refl
-frame-number (FrameWrite c l) = refl
-
 -- two clauses of refusal 12
 module _ (d : Driver) (e : described d ≡ false) where
   abbrev b : Buffers
@@ -205,9 +197,9 @@ module _ (d : Driver) (e : described d ≡ false) where
       let c = of d in
       let with-frame = ltb 0 (frameNo (b .under)) && h in
       let found : T (not (gone c)) = rw (none-right (frameUnfit (b .under) n h) (bufferMissing b n) last-clauses) tt in
-      let framed-so : T (framed c) = rw (frame-number (b .under), names) tt in
+      let framed-so : T (framed c) = rw (← frame-no (b .under), names) tt in
       let clear : T (not (ltb 0 (frameOf (kind (b .under))) && h)) =
-      rw (frame-number (b .under), none-right (not (eqb (frameNo (b .under)) (stateFrame n))) with-frame unfit) tt in
+      rw (← frame-no (b .under), none-right (not (eqb (frameNo (b .under)) (stateFrame n))) with-frame unfit) tt in
       subst (λ c. T (not (gone c))) (sym (over-is d))
       (apply (not (gone c)) (not (gone (back c)))
       (apply (not (ltb 0 (frameOf (kind (b .under))) && h)) _
