@@ -39,7 +39,7 @@ use Rattle.custody.specs.Claim.{kindOf}
 use Rattle.laws.proofs.Logic.{left, right}
 use Rattle.rf233.proofs.ChoiceLaws.{branch}
 use Rattle.rf233.proofs.EveryStep.{Kept, Ends, commits-first, every-access}
-use Rattle.rf233.proofs.Facts.{kind, isNone, of, under, entered, entered-is, prepared-is}
+use Rattle.rf233.proofs.Facts.{kind, isNone, of, under, settled, settled-is, prepared-is}
 use Rattle.rf233.proofs.Facts.Kind.{access}
 use Rattle.rf233.proofs.Fit.{fit, okShown, okAccess, okRow, row-fits, to-46, to-60, to-handling, to-62, to-33, to-29, to-59, to-28, to-42}
 use Rattle.rf233.proofs.Trees.{rowOf}
@@ -108,11 +108,11 @@ module _ (k : Page) where
       let c = withBuffers (handed sh (e .buffers)) e in
       let y = actions (shown a e sh) in
       let q = entering-record m (assigning (a .result) l d) in
-      let p = okShown sh (entered l m (of d)) in
+      let p = okShown sh (settled l m (of d)) in
       let few = left (leb (length sh) 6 && p) _ o in
       let six = leb→le (length sh) 6 (left (leb (length sh) 6) p few) in
       let there : T (okShown sh (of e)) =
-      subst (λ z. T (okShown sh z)) (sym (entered-is (a .result) l m d)) (right (leb (length sh) 6) p few) in
+      subst (λ z. T (okShown sh z)) (sym (settled-is (a .result) l m d)) (right (leb (length sh) 6) p few) in
       let given =
       hands a e sh (e .buffers) k (record { tx-of = λ y. refl; rx-of = λ y. refl }) there
       (subst (λ b. Match b k) (sym q) (v .inv .match)) in

@@ -139,32 +139,32 @@ below-at f (suc n) t s h = go (eqb s n) refl (below-at f n (right (f n) (all-bel
 -- the test of a number, or one of two
 pub data Tests : Type 0 where
   test : ℕ → Tests
-  either : Tests → Tests → Tests
+  anyOf : Tests → Tests → Tests
 
 -- where the test of number n is f n
 abbrev pub passed : (ℕ → Bool) → Tests → Bool
 passed f (test n) = f n
-passed f (either x y) = passed f x || passed f y
+passed f (anyOf x y) = passed f x || passed f y
 
 -- the test of number n is among them
 abbrev pub has : ℕ → Tests → Bool
 has n (test m) = eqb n m
-has n (either x y) = has n x || has n y
+has n (anyOf x y) = has n x || has n y
 
 -- the tests of x are among those of y
 abbrev pub among : Tests → Tests → Bool
 among (test n) y = has n y
-among (either x z) y = among x y && among z y
+among (anyOf x z) y = among x y && among z y
 
 has-passes : (f : ℕ → Bool) (n : ℕ) (y : Tests) → T (has n y) → T (f n) → T (passed f y)
 has-passes f n (test m) h t = subst (λ k. T (f k)) (eqb-true n m (is-true (eqb n m) h)) t
-has-passes f n (either x y) h t =
+has-passes f n (anyOf x y) h t =
     or-case (has n x) (has n y) h (λ i. or-left (passed f x) (passed f y) (has-passes f n x i t))
     (λ i. or-right (passed f x) (passed f y) (has-passes f n y i t))
 
 among-passes : (f : ℕ → Bool) (x y : Tests) → T (among x y) → T (passed f x) → T (passed f y)
 among-passes f (test n) y a t = has-passes f n y a t
-among-passes f (either x z) y a t =
+among-passes f (anyOf x z) y a t =
     or-case (passed f x) (passed f z) t (λ i. among-passes f x y (left (among x y) (among z y) a) i)
     (λ i. among-passes f z y (right (among x y) (among z y) a) i)
 

@@ -110,11 +110,11 @@ nextNo same n = n
 nextNo (to s) n = stateNo s
 
 -- the facts with a row's flags set and its state entered, and once its buffers are handed back
-abbrev pub entered : List Assignment → Next → Facts → Facts
-entered l m c = at (nextNo m (c .state)) (flags (final transmitting l (c .sends)) (final interruptHandling l (c .handles)) c)
+abbrev pub settled : List Assignment → Next → Facts → Facts
+settled l m c = at (nextNo m (c .state)) (flags (final transmitting l (c .sends)) (final interruptHandling l (c .handles)) c)
 
 abbrev pub prepared : List Assignment → Next → List Shown → Facts → Facts
-prepared l m sh c = handedBack sh (entered l m c)
+prepared l m sh c = handedBack sh (settled l m c)
 
 assigned-is : (r : ℕ) (l : List Assignment) (d : Driver)
     → of (assigning r l d)
@@ -127,8 +127,8 @@ entering-is : (m : Next) (d : Driver) → of (entering m d) ≡ at (nextNo m (st
 entering-is same d = refl
 entering-is (to s) d = refl
 
-pub entered-is : (r : ℕ) (l : List Assignment) (m : Next) (d : Driver) → of (entering m (assigning r l d)) ≡ entered l m (of d)
-entered-is r l m d = entering-is m (assigning r l d) ∙ ap (at (nextNo m (stateNo (d .state)))) (assigned-is r l d)
+pub settled-is : (r : ℕ) (l : List Assignment) (m : Next) (d : Driver) → of (entering m (assigning r l d)) ≡ settled l m (of d)
+settled-is r l m d = entering-is m (assigning r l d) ∙ ap (at (nextNo m (stateNo (d .state)))) (assigned-is r l d)
 
 handed-is : (sh : List Shown) (d : Driver) → of (withBuffers (handed sh (d .buffers)) d) ≡ handedBack sh (of d)
 handed-is [] d = refl
@@ -142,7 +142,7 @@ handed-is (receivedBack ∷ more) d = handed-is more (withBuffers (withoutRx (d 
 -- of the driver before a row's access
 pub prepared-is : (r : ℕ) (l : List Assignment) (m : Next) (sh : List Shown) (d : Driver)
     → let e = entering m (assigning r l d) in of (withBuffers (handed sh (e .buffers)) e) ≡ prepared l m sh (of d)
-prepared-is r l m sh d = handed-is sh (entering m (assigning r l d)) ∙ ap (handedBack sh) (entered-is r l m d)
+prepared-is r l m sh d = handed-is sh (entering m (assigning r l d)) ∙ ap (handedBack sh) (settled-is r l m d)
 
 -- ---- the return of the buffers
 

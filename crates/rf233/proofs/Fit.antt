@@ -20,7 +20,7 @@ use Rattle.rf233.specs.declared.action.Action.the-variants as action
 use Rattle.rf233.specs.declared.arrived.Arrived.{Arrived}
 use Rattle.rf233.specs.declared.driver.Driver.{Driver}
 use Rattle.laws.proofs.Logic.{left, right, imp, apply, all, all-at, all-below, below-at}
-use Rattle.rf233.proofs.Facts.{Kind, kind, isNone, frameOf, Facts, facts, of, under, at, holding, flags, entered, prepared, back}
+use Rattle.rf233.proofs.Facts.{Kind, kind, isNone, frameOf, Facts, facts, of, under, at, holding, flags, settled, prepared, back}
 use Rattle.rf233.proofs.Facts.Kind.{nothing, access, reading, writing}
 use Rattle.rf233.proofs.Trees.{leaves, row-at, rowOf, known, known-so}
 
@@ -159,7 +159,7 @@ okAccess writesFrame f c = c .tx && fit (holding false (c .rx) (under writing c)
 
 -- a row likewise
 abbrev pub okRow : Bool → Facts → Row → Bool
-okRow f c (does l x m sh) = (leb (length sh) 6 && okShown sh (entered l m c)) && okAccess x f (prepared l m sh c)
+okRow f c (does l x m sh) = (leb (length sh) 6 && okShown sh (settled l m c)) && okAccess x f (prepared l m sh c)
 
 -- THE TEST OF THE 69 ROWS: each state's case leads to rows that leave what fits
 all-rows : Follows resting always (λ c. all λ f. leaves (known f (c .sends)) (okRow f c) (treeAt (c .state)))

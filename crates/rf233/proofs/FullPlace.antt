@@ -51,7 +51,7 @@ use Rattle.rf233.proofs.EveryStep.{OfSteps, Kept, silent-ends, completi
 use Rattle.rf233.proofs.Facts.{Facts, kind, frameOf, frame-no, of, back, over-is}
 use Rattle.rf233.proofs.Fit as fit
 use Rattle.rf233.proofs.Fit.{framed, all-facts, facts-at}
-use Rattle.rf233.proofs.Trees.{leaves, any, rowOf, row-of}
+use Rattle.rf233.proofs.Trees.{leaves, unknown, rowOf, row-of}
 use Rattle.rf233.proofs.Keys.{state-below}
 
 -- what a row takes: from the transmit place by a sent or dropped buffer or a frame write, from the receive place by a received buffer or a
@@ -107,7 +107,7 @@ abbrev rowTakes : ℕ → Row → Bool
 rowTakes n x = imp (takesTx x) (namedTx n) && imp (takesRx x) (namedRx n)
 
 -- THE TEST OF THE ROWS: they take buffers in no other states
-rows-take : T (all-below (λ n. leaves any (rowTakes n) (treeAt n)) 69)
+rows-take : T (all-below (λ n. leaves unknown (rowTakes n) (treeAt n)) 69)
 unfolding treeAt trees
 rows-take = tt
 

@@ -33,7 +33,7 @@ use Rattle.rf233.specs.declared.driver.Under.the-variants.{Idle, Registe
 use Rattle.rf233.proofs.Twice.{uncounted, pairs, meets-empty}
 use Rattle.laws.proofs.Logic as logic
 use Rattle.laws.proofs.Logic.{Tests}
-use Rattle.laws.proofs.Logic.Tests.{test, either}
+use Rattle.laws.proofs.Logic.Tests.{test, anyOf}
 
 -- the tests of a list by their places in it
 abbrev of : List Bool → ℕ → Bool
@@ -42,8 +42,8 @@ of l n = getD l n false
 -- four tests of a frame transfer, in the clauses' order and in the code's
 in-order : (l : List Bool) → of l 0 || (of l 1 || (of l 2 || of l 3)) ≡ of l 3 || ((of l 0 || of l 2) || of l 1)
 in-order l =
-    logic.regrouped (of l) (either (test 0) (either (test 1) (either (test 2) (test 3))))
-    (either (test 3) (either (either (test 0) (test 2)) (test 1))) tt tt
+    logic.regrouped (of l) (anyOf (test 0) (anyOf (test 1) (anyOf (test 2) (test 3))))
+    (anyOf (test 3) (anyOf (anyOf (test 0) (test 2)) (test 1))) tt tt
 
 -- what the clauses ask of a frame transfer. That its client's buffer is held in the place of its own kind is asked already where any is.
 module _ (n : ℕ) (handling : Bool) where
@@ -65,18 +65,18 @@ module _ (n : ℕ) (handling : Bool) where
 -- all the tests, clause by clause and place by place; 0 to 16 are `tests` below
 abbrev byClause : Tests
 byClause =
-    either (either (test 2) (either (test 4) (test 8)))
-    (either (either (either (test 6) (test 9)) (test 10))
-    (either (test 7)
-    (either (either (test 0) (either (test 1) (either (test 3) (either (test 11) (either (test 5) (test 12))))))
-    (either (test 13) (either (either (test 15) (test 14)) (test 16))))))
+    anyOf (anyOf (test 2) (anyOf (test 4) (test 8)))
+    (anyOf (anyOf (anyOf (test 6) (test 9)) (test 10))
+    (anyOf (test 7)
+    (anyOf (anyOf (test 0) (anyOf (test 1) (anyOf (test 3) (anyOf (test 11) (anyOf (test 5) (test 12))))))
+    (anyOf (test 13) (anyOf (anyOf (test 15) (test 14)) (test 16))))))
 
 abbrev byPlace : Tests
 byPlace =
-    either (test 0) (either (test 1) (either (either (test 2) (test 3)) (either (either (test 4) (test 5)) (either (test 6)
-    (either (either (test 7)
-    (either (test 8) (either (test 9) (either (test 10) (either (test 11) (either (test 12) (either (test 13) (test 14))))))))
-    (either (test 15) (test 16)))))))
+    anyOf (test 0) (anyOf (test 1) (anyOf (anyOf (test 2) (test 3)) (anyOf (anyOf (test 4) (test 5)) (anyOf (test 6)
+    (anyOf (anyOf (test 7)
+    (anyOf (test 8) (anyOf (test 9) (anyOf (test 10) (anyOf (test 11) (anyOf (test 12) (anyOf (test 13) (test 14))))))))
+    (anyOf (test 15) (test 16)))))))
 
 module _ (d : Driver) where
   abbrev r : Buffers

@@ -28,11 +28,11 @@ use Rattle.laws.proofs.Logic.{left, right, imp, apply, all-below, below-at}
 use Rattle.rf233.proofs.Keys.{state-below}
 
 -- whether a test can have an answer
-abbrev pub Answers : Type 0
-Answers = Test → Bool → Bool
+abbrev pub Possible : Type 0
+Possible = Test → Bool → Bool
 
 -- each leaf passes p that can be reached
-abbrev pub leaves : Answers → (Row → Bool) → Tree → Bool
+abbrev pub leaves : Possible → (Row → Bool) → Tree → Bool
 leaves can p (leaf r) = p r
 leaves can p (ask c u v) = imp (can c true) (leaves can p u) && imp (can c false) (leaves can p v)
 
@@ -43,7 +43,7 @@ unfolding pick
 chosen p can true x y h s t = s h
 chosen p can false x y h s t = t h
 
-module _ (can : Answers) (p : Row → Bool) (a : Arrived) (d : Driver) (so : (c : Test) → T (can c (holds c a d))) where
+module _ (can : Possible) (p : Row → Bool) (a : Arrived) (d : Driver) (so : (c : Test) → T (can c (holds c a d))) where
   pub row-at : (u : Tree) → T (leaves can p u) → T (p (eval u a d))
   unfolding eval
   row-at (leaf r) t = t
@@ -57,15 +57,15 @@ module _ (can : Answers) (p : Row → Bool) (a : Arrived) (d : Driver) (so : (c 
 abbrev pub rowOf : Arrived → Driver → Row
 rowOf a d = eval (treeAt (stateNo (d .state))) a d
 
--- any answer
-abbrev pub any : Answers
-any c v = true
+-- nothing is known: any answer is possible
+abbrev pub unknown : Possible
+unknown c v = true
 
-pub row-of : (p : ℕ → Row → Bool) → T (all-below (λ n. leaves any (p n) (treeAt n)) 69) → (a : Arrived) (d : Driver)
+pub row-of : (p : ℕ → Row → Bool) → T (all-below (λ n. leaves unknown (p n) (treeAt n)) 69) → (a : Arrived) (d : Driver)
     → T (p (stateNo (d .state)) (rowOf a d))
 row-of p t a d =
     let n = stateNo (d .state) in
-    row-at any (p n) a d (λ c. tt) (treeAt n) (below-at (λ n. leaves any (p n) (treeAt n)) 69 t n (state-below (d .state)))
+    row-at unknown (p n) a d (λ c. tt) (treeAt n) (below-at (λ n. leaves unknown (p n) (treeAt n)) 69 t n (state-below (d .state)))
 
 -- ---- where it is known whether the length is in its range (f) and whether the driver is transmitting (s)
 
@@ -76,7 +76,7 @@ same-self : (a : Bool) → T (same a a)
 same-self true = tt
 same-self false = tt
 
-abbrev pub known : Bool → Bool → Answers
+abbrev pub known : Bool → Bool → Possible
 known f s (statusIn l) v = true
 known f s lengthFits v = same f v
 known f s (isSet g) v = imp (eqb (flagNo g) (flagNo transmitting)) (same s v)

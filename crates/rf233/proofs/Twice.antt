@@ -19,7 +19,7 @@ use Rattle.rf233.specs.Described.{
   recordedTwice,
   ownNowhere,
   clientAbove,
-  named,
+  namedIn,
   times,
   meets,
   ownWrong,
@@ -39,7 +39,7 @@ repeats (c ∷ l) = ltb 0 (times c l) || repeats l
 
 -- the buffers that the client's places name
 abbrev pub clientsNamed : Buffers → List ℕ
-clientsNamed r = named (r .«tx_buf») ++ (named (r .«rx_buf») ++ named (underSlot (r .under)))
+clientsNamed r = namedIn (r .«tx_buf») ++ (namedIn (r .«rx_buf») ++ namedIn (underSlot (r .under)))
 
 -- a buffer that a list names more than once stands again behind one of its elements
 names-again : (l : List ℕ) (k : ℕ) → 1 < times k l → T (repeats l)
@@ -63,7 +63,7 @@ times-append k [] m = omega arith
 times-append k (c ∷ l) m = omega (arith, times-append k l m)
 
 -- a place names what it has
-named-times : (s : Slot) (k : ℕ) → times k (named s) ≡ one (slotHas s k)
+named-times : (s : Slot) (k : ℕ) → times k (namedIn s) ≡ one (slotHas s k)
 named-times Empty k = refl
 named-times (Held c l) k = omega arith
 
@@ -92,11 +92,11 @@ repeats-append (c ∷ l) m =
     (two-three (ltb 0 (times c l)) (ltb 0 (times c m)) (meets l m) (repeats l) (repeats m))
 
 -- a place names no buffer twice, and meets another's as `same_buffer` asks
-named-once : (s : Slot) → repeats (named s) ≡ false
+named-once : (s : Slot) → repeats (namedIn s) ≡ false
 named-once Empty = refl
 named-once (Held c l) = refl
 
-pub meets-slot : (c : ℕ) (s : Slot) → meets (c ∷ []) (named s) ≡ slotHas s c
+pub meets-slot : (c : ℕ) (s : Slot) → meets (c ∷ []) (namedIn s) ≡ slotHas s c
 meets-slot c Empty = refl
 meets-slot c (Held b l) = go (eqb b c)
   where
@@ -104,18 +104,18 @@ meets-slot c (Held b l) = go (eqb b c)
     go true = refl
     go false = refl
 
-pub meets-empty : (s : Slot) → meets (named s) [] ≡ false
+pub meets-empty : (s : Slot) → meets (namedIn s) [] ≡ false
 meets-empty Empty = refl
 meets-empty (Held c l) = refl
 
 -- the client's places, two by two
-pub pairs : (x y z : Slot) → (meets (named x) (named y) || meets (named x) (named z)) || meets (named y) (named z)
-    ≡ repeats (named x ++ (named y ++ named z))
+pub pairs : (x y z : Slot) → (meets (namedIn x) (namedIn y) || meets (namedIn x) (namedIn z)) || meets (namedIn y) (namedIn z)
+    ≡ repeats (namedIn x ++ (namedIn y ++ namedIn z))
 pairs x y z =
     rw (
-      repeats-append (named x) (named y ++ named z),
-      repeats-append (named y) (named z),
-      meets-append (named x) (named y) (named z),
+      repeats-append (namedIn x) (namedIn y ++ namedIn z),
+      repeats-append (namedIn y) (namedIn z),
+      meets-append (namedIn x) (namedIn y) (namedIn z),
       named-once x,
       named-once y,
       named-once z,
@@ -181,8 +181,8 @@ module _ (r : Buffers) where
         and-false (r .«spi_rx»),
         and-false (r .«spi_buf»),
         under-client (r .under) k h,
-        times-append k (named tx) (named rx ++ named going),
-        times-append k (named rx) (named going),
+        times-append k (namedIn tx) (namedIn rx ++ namedIn going),
+        times-append k (namedIn rx) (namedIn going),
         named-times tx k,
         named-times rx k,
         named-times going k,
@@ -201,19 +201,19 @@ module _ (r : Buffers) where
     going-low = none-right (slotAbove rx) _ (none-right (slotAbove tx) _ above)
 
     -- what the places name is below 16
-    named-low : (s : Slot) (k : ℕ) → slotAbove s ≡ false → 0 < times k (named s) → k < 16
+    named-low : (s : Slot) (k : ℕ) → slotAbove s ≡ false → 0 < times k (namedIn s) → k < 16
     named-low Empty k e h = absurd (omega arith)
     named-low (Held c l) k e h =
         by-flag (eqb c k) (λ q. omega (arith, ltb-false 15 c e, eqb-true c k q)) (λ q. absurd (omega (arith, rw q at h)))
 
     all-low : (k : ℕ) → 0 < times k (clientsNamed r) → k < 16
     all-low k h =
-        let x = times-append k (named tx) (named rx ++ named going) in
-        let y = times-append k (named rx) (named going) in
-        by-flag (ltb 0 (times k (named tx))) (λ e. named-low tx k tx-low (ltb-true 0 (times k (named tx)) e))
-        (λ e. by-flag (ltb 0 (times k (named rx))) (λ f. named-low rx k rx-low (ltb-true 0 (times k (named rx)) f))
+        let x = times-append k (namedIn tx) (namedIn rx ++ namedIn going) in
+        let y = times-append k (namedIn rx) (namedIn going) in
+        by-flag (ltb 0 (times k (namedIn tx))) (λ e. named-low tx k tx-low (ltb-true 0 (times k (namedIn tx)) e))
+        (λ e. by-flag (ltb 0 (times k (namedIn rx))) (λ f. named-low rx k rx-low (ltb-true 0 (times k (namedIn rx)) f))
         (λ f. named-low going k going-low
-        (omega (arith, x, y, ltb-false 0 (times k (named tx)) e, ltb-false 0 (times k (named rx)) f))))
+        (omega (arith, x, y, ltb-false 0 (times k (namedIn tx)) e, ltb-false 0 (times k (namedIn rx)) f))))
 
     clients : twiceBelow r 16 ≡ repeats (clientsNamed r)
     clients =

@@ -93,9 +93,9 @@ described d =
 -- The parts in which `is_described` asks this, place by place: `described` is made of them (`regrouped` in proofs/Regrouped.antt).
 
 -- the buffer that a place names, as a list of none or one
-abbrev pub named : Slot → List ℕ
-named Empty = []
-named (Held c l) = c ∷ []
+abbrev pub namedIn : Slot → List ℕ
+namedIn Empty = []
+namedIn (Held c l) = c ∷ []
 
 -- how often a list names buffer b
 abbrev pub times : ℕ → List ℕ → ℕ
@@ -109,7 +109,7 @@ meets (c ∷ l) m = ltb 0 (times c m) || meets l m
 
 -- the two places name the same buffer
 abbrev pub sameBuffer : Slot → Slot → Bool
-sameBuffer x y = meets (named x) (named y)
+sameBuffer x y = meets (namedIn x) (namedIn y)
 
 -- an own buffer in its own place while the transfer has it, or out of it while it does not
 abbrev pub ownWrong : Under → Buffers → Bool
