@@ -59,18 +59,20 @@ lengths-back (FrameWrite c l) b e g =
       rx-under = refl;
     }
 
--- a transfer to complete is one under way, and with its buffers back none is
-busy-now : (u : Under) → underWay u ≡ true → T (not (isNone (kind u)))
-busy-now Idle i = absurd (subst T (sym i) tt)
-busy-now Register i = tt
-busy-now (FrameRead c l) i = tt
-busy-now (FrameWrite c l) i = tt
+-- what holds of each kind of transfer holds where there is one to complete
+busy-case : (P : Under → Type 0) → P Register → ((c l : ℕ) → P (FrameRead c l)) → ((c l : ℕ) → P (FrameWrite c l)) → (u : Under)
+    → underWay u ≡ true → P u
+busy-case P r x y Idle i = absurd (subst T (sym i) tt)
+busy-case P r x y Register i = r
+busy-case P r x y (FrameRead c l) i = x c l
+busy-case P r x y (FrameWrite c l) i = y c l
 
-back-free : (u : Under) (b : Buffers) → underWay u ≡ true → freeToStart (buffersBack u b) ≡ true
-back-free Idle b i = absurd (subst T (sym i) tt)
-back-free Register b i = refl
-back-free (FrameRead c l) b i = refl
-back-free (FrameWrite c l) b i = refl
+-- one is under way, and none is with its buffers back
+busy-now : (u : Under) → underWay u ≡ true → T (not (isNone (kind u)))
+busy-now = busy-case (λ u. T (not (isNone (kind u)))) tt (λ c l. tt) (λ c l. tt)
+
+back-free : (b : Buffers) (u : Under) → underWay u ≡ true → freeToStart (buffersBack u b) ≡ true
+back-free b = busy-case (λ u. freeToStart (buffersBack u b) ≡ true) refl (λ c l. refl) (λ c l. refl)
 
 returned-keeps : (k : Page) (d : Driver) → Inv k d → toComplete (d .buffers) ≡ true → Rest (ended k) (transferOver d)
 returned-keeps k d v i =
@@ -81,7 +83,7 @@ returned-keeps k d v i =
         fitted = subst (λ c. T (fit c)) (sym (over-is d)) (return-fits .gives (of d) (v .fitted) (busy-now u i) tt);
         lengths = lengths-back u (d .buffers) refl (v .lengths);
       };
-      free = back-free u (d .buffers) i;
+      free = back-free (d .buffers) u i;
     }
 
 pub completed-keeps : (k : Page) (a : Arrived) (d : Driver) → Inv k d → toComplete (d .buffers) ≡ true → After (ended k) (completed a d)
@@ -92,10 +94,7 @@ completed-keeps k a d v i =
 
 -- the kind of transfer that a request joins
 joins-busy : (u : Under) → underWay u ≡ true → joins (kind u) ≡ kind u
-joins-busy Idle i = absurd (subst T (sym i) tt)
-joins-busy Register i = refl
-joins-busy (FrameRead c l) i = refl
-joins-busy (FrameWrite c l) i = refl
+joins-busy = busy-case (λ u. joins (kind u) ≡ kind u) refl (λ c l. refl) (λ c l. refl)
 
 module _ (k : Page) (d : Driver) (v : Inv k d) where
   -- the invariant of a driver with the same record

@@ -5,9 +5,13 @@ use mathlib.Core.Bool.{Bool, true, false}
 use mathlib.Core.List.{List, [], _∷_}
 use Prim.Native.Nat.{ℕ}
 use lib.Dec.{lit≤}
-use lib.IntN.{pos}
 use lib.ListN.{replicate, length-replicate}
-use Rattle.rf233.specs.Driver.{driverOf, flagsOf, clientsOf, settingsOf, buffersOf}
+use Rattle.rf233.specs.Create.{newDriver}
+use Rattle.rf233.specs.Driver.{flagged, withState, withSettings, withAddr, withPan, withBuffers}
+use Rattle.rf233.specs.Driver.{withRegisters, withSpiBuf, withSpiBufLen, withTx, withRx, withTxLen, withUnder}
+use Rattle.rf233.specs.Driver.Client.{txClient, rxClient, cfgClient, powerClient}
+use Rattle.rf233.specs.Driver.Flag.{radioOn, interruptHandling, configPending}
+use Rattle.rf233.specs.Listeners.{setClient}
 use Rattle.rf233.specs.Described.{described}
 use Rattle.rf233.specs.Record.{countOf}
 use Rattle.rf233.specs.declared.driver.Driver.{Driver}
@@ -37,10 +41,11 @@ pool = replicate 3040 0
 -- buffers of a register transfer, and spi_buf, are in their places; then the client's places and the transfer under way
 abbrev example : InternalState → Bool → Bool → Bool → Bool → Slot → Slot → Under → Driver
 example s w h t b x y u =
-    driverOf s (flagsOf true false false false h false w false false false)
-    (clientsOf true true true true)
-    (settingsOf 0xABCD (replicate 8 0) 0x1234 (pos 4) 26)
-    (buffersOf t t b 129 2 x y 10 u)
+    let new = newDriver 129 26 in
+    let listening = setClient powerClient (setClient cfgClient (setClient rxClient (setClient txClient new true) true) true) true in
+    let held = withUnder u (withTxLen 10 (withRx y (withTx x (withSpiBufLen 2 (withSpiBuf b (withRegisters t (new .buffers))))))) in
+    flagged radioOn true (flagged interruptHandling h (flagged configPending w
+    (withState s (withBuffers held (withSettings (withPan 0x1234 (withAddr 0xABCD (new .settings))) listening)))))
 
 passes : (d : Driver) → described d ≡ false → Passes12 d pool
 unfolding pool

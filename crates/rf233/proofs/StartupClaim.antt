@@ -12,7 +12,8 @@ use borrow.Author.Tests.{eqb-true, eqb-false, le-leb, not-true}
 use lib.ListN.{getD}
 use Rattle.rf233_const.specs.Bits.{bitSet}
 use Rattle.rf233.specs.Choice.{pick, oneOf}
-use Rattle.rf233.specs.Driver.{inNo, driverOf, flagsOf, withRegisters, withUnder}
+use Rattle.rf233.specs.Driver.{inNo, flagged, withState, withBuffers, withRegisters, withUnder}
+use Rattle.rf233.specs.Driver.Flag.{radioOn, interruptHandling, interruptPending, wakePending}
 use Rattle.rf233.specs.Completion.{completed, interruptResult, frameEnd, readyBookkeeping, pendingInterrupt, waitingCommit, frameDone}
 use Rattle.rf233.specs.Interrupt.{handleInterrupt, interruptState, pllLock, rxStart, trxEnd}
 use Rattle.rf233.specs.Config.{startCall, beginStart}
@@ -97,8 +98,9 @@ data Stage : Type 0 where
 -- the driver in a state, by its flags radio_on, handling, pending and wake_pending, and whether a register transfer is under way
 staged : ℕ → ℕ → InternalState → Bool → Bool → Bool → Bool → Bool → Driver
 staged l c s o h i w e =
-    driverOf s (flagsOf o false false false h i false false w false) (newDriver l c .clients) (newDriver l c .settings)
-    (withUnder (pick e Idle Register) (withRegisters e (newDriver l c .buffers)))
+    let new = newDriver l c in
+    flagged radioOn o (flagged interruptHandling h (flagged interruptPending i (flagged wakePending w
+    (withState s (withBuffers (withUnder (pick e Idle Register) (withRegisters e (new .buffers))) new)))))
 
 stage : ℕ → ℕ → Stage → Driver
 stage l c (at n) = staged l c (stateAt n) false false false true false

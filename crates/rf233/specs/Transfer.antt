@@ -26,6 +26,6 @@ underWay (FrameWrite b l) = true
 abbrev pub freeToStart : Buffers → Bool
 freeToStart b = not (underWay (b .under))
 
--- there is a transfer for a completion to end; today so exactly where none may begin
+-- there is a transfer for a completion to end
 abbrev pub toComplete : Buffers → Bool
 toComplete b = underWay (b .under)

@@ -52,7 +52,7 @@ pub fn free_to_start(b: Buffers) -> bool
 }
 
 // There is a transfer for a completion to end.
-pub fn to_complete(b: Buffers) -> bool
+pub(crate) fn to_complete(b: Buffers) -> bool
     ensures { λ r. ⌜ r ≡ toComplete b ⌝ }
 {
     let under = b.under;
