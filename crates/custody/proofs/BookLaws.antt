@@ -2,11 +2,11 @@
 -- two buffers move, how many buffers a place has, and what the record's tests say. Assumes nothing.
 use mathlib.Core.Path.{_≡_, refl, sym, _∙_}
 use mathlib.Core.Bool.{Bool, true, false, not, _||_, or-false}
-use mathlib.Core.List.{List, []}
+use mathlib.Core.List.{List, [], _∷_}
 use Prim.Native.Nat.{ℕ, zero, suc, _+_, _*_, _≤_, _<_}
 use native.Mathlib.Omega.{arith}
 use native.Mathlib.Numerals.{add-one}
-use lib.Dec.{eqb, ltb}
+use lib.Dec.{T, eqb, ltb}
 use lib.ListN.{length, getD, set, length-set}
 use lib.Seq.{getD-set-same, getD-set-other}
 use borrow.Author.Tests.{eqb-true, eqb-false, eq-eqb, ne-eqb, ltb-false}
@@ -19,6 +19,7 @@ use Rattle.rf233.specs.declared.driver.Slot.{Slot}
 use Rattle.rf233.specs.declared.driver.Slot.the-variants.{Empty, Held}
 use Rattle.rf233.specs.declared.driver.Under.{Under}
 use Rattle.rf233.specs.declared.driver.Under.the-variants.{Idle, Register, FrameRead, FrameWrite}
+use Rattle.rf233.specs.Choice.{oneOf}
 use Rattle.rf233.specs.Place.{clientPlace, ownPlace, transmitPlace, receivePlace, transferPlace, when}
 
 -- the places by the four tests: own, transmit, receive, under way; how many they are, and the sum of their numbers
@@ -46,6 +47,18 @@ fit false false true true h = absurd (omega arith)
 fit false false true false h = (refl, refl, refl)
 fit false false false true h = (refl, refl, refl)
 fit false false false false h = (refl, refl, refl)
+
+-- and where it is its own place or the transfer's, the sum is that place's number
+pub own-or-under : (o t r w : Bool) → 1 ≤ one o + one w → countBy o t r w ≤ 1
+    → T (oneOf (ownPlace ∷ transferPlace ∷ []) (sumBy o t r w))
+own-or-under true true r w i h = absurd (omega arith)
+own-or-under true false true w i h = absurd (omega arith)
+own-or-under true false false true i h = absurd (omega arith)
+own-or-under true false false false i h = tt
+own-or-under false true r w i h = absurd (omega arith)
+own-or-under false false true w i h = absurd (omega arith)
+own-or-under false false false true i h = tt
+own-or-under false false false false i h = absurd (omega arith)
 
 -- two tests that do not both hold, as a number
 one-of : (p q : Bool) → (p ≡ true → q ≡ false) → one (p || q) ≡ one p + one q

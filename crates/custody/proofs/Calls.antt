@@ -31,7 +31,7 @@ use Rattle.rf233.specs.declared.driver.Under.the-variants.{Idle, Register, Fram
 use Rattle.rf233.specs.declared.state.InternalState.the-variants.{«SLEEP_WAKE», «SLEEP_TRX_OFF», «CONFIG_SHORT0_SET», «TX_STATUS_PRECHECK1»}
 use Rattle.custody.specs.Book.{Page, Fed, called, entered}
 use Rattle.custody.specs.Book.Fed.{completes, other, lendsTransmit, lendsReceive}
-use Rattle.custody.specs.Claim.{Call, fed, yields}
+use Rattle.custody.specs.Claim.{Call, fed, made, yields}
 use Rattle.custody.specs.Claim.Call.{
   start,
   stop,
@@ -291,7 +291,7 @@ module _ (k : Page) (d : Driver) (v : Inv k d) where
 
   -- every call
   pub keeps : (c : Call) (p : List ℕ) → Entered (fed c) k (yields d c p)
-  unfolding yields
+  unfolding made
   keeps start p = start-keeps p
   keeps stop p = stop-keeps p
   keeps commit p = commit-keeps p

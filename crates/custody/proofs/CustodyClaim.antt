@@ -23,7 +23,7 @@ use Rattle.rf233.proofs.Conditions.{by-flag}
 use Rattle.rf233.proofs.Fit.{fit}
 use Rattle.laws.proofs.Logic.{left, is-true, both-left}
 use Rattle.rf233.proofs.ChoiceLaws.{branch}
-use Rattle.custody.proofs.Match.{match-new, fitted, counted-in-record}
+use Rattle.custody.proofs.Match.{match-new, fitted, own-kept, counted-in-record}
 
 -- the invariant of a world
 abbrev Holds : World → Type 0
@@ -72,6 +72,7 @@ kept w v =
     record {
       faultless = m .faultless;
       placed = λ b h. fitted (w .driver .buffers) (w .book) m b h .0;
+      own = own-kept (w .driver .buffers) (w .book) m;
       kind = m .going .kind;
       write = m .going .write;
       read = m .going .read;

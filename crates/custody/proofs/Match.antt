@@ -4,16 +4,19 @@ use mathlib.Core.Path.{_≡_, refl, sym, _∙_}
 use mathlib.Core.Bool.{Bool, true, false, not, _&&_, _||_, and-true, and-false, or-false}
 use Prim.Native.Nat.{ℕ, zero, suc, _+_, _≤_, _<_}
 use native.Mathlib.Omega.{arith}
-use lib.Dec.{eqb, leb, ltb, eqb→eq, leb→le}
+use mathlib.Core.List.{[], _∷_}
+use lib.Dec.{T, eqb, leb, ltb, eqb→eq, leb→le}
 use lib.ListN.{getD}
-use borrow.Author.Tests.{ltb-false, eqb-false, ne-eqb, le-ltb, lt-ltb}
+use borrow.Author.Tests.{ltb-false, eqb-true, eqb-false, ne-eqb, le-ltb, lt-ltb}
+use Rattle.rf233.proofs.Conditions.{by-flag}
 use Rattle.laws.proofs.Logic.{left, right, none-left, none-right, or-left-comm, below-at}
-use Rattle.custody.proofs.BookLaws.{countBy, sumBy, fit, of-two, of-three, of-first, sum, Booked, both, More, two-moved, comes, goes}
+use Rattle.custody.proofs.BookLaws.{countBy, sumBy, fit, own-or-under, of-two, of-three, of-first, sum, Booked, both, More, two-moved, comes, goes}
 use Rattle.custody.proofs.BookLaws.{filled-none, as-kind, idle-is, empty-is, some-one, low, same}
 use Rattle.custody.specs.Book.{Page, newPage, missing, writeFrom, readFrom, room, full, brought, ended, given, namesOwn, taken}
 use Rattle.custody.specs.Book.{acts, turnedDown}
 use Rattle.custody.specs.Claim.{only, heldBelow, kindOf, underKind, underWrite, underRead}
 use Rattle.rf233.specs.Record.{isHeld, one, slotHas, underHas, countOf, recordHas, txUnderWay, rxUnderWay}
+use Rattle.rf233.specs.Choice.{oneOf}
 use Rattle.rf233.specs.Completion.{buffersBack}
 use Rattle.rf233.specs.Case.{withoutTx, withoutRx}
 use Rattle.rf233.specs.Create.{newDriver}
@@ -27,7 +30,7 @@ use Rattle.rf233.specs.declared.driver.Slot.{Slot}
 use Rattle.rf233.specs.declared.driver.Slot.the-variants.{Empty, Held}
 use Rattle.rf233.specs.declared.driver.Under.{Under}
 use Rattle.rf233.specs.declared.driver.Under.the-variants.{Idle, Register, FrameRead, FrameWrite}
-use Rattle.rf233.specs.Place.{clientPlace, transmitPlace, receivePlace, transferPlace, placesOf}
+use Rattle.rf233.specs.Place.{clientPlace, ownPlace, transmitPlace, receivePlace, transferPlace, placesOf}
 
 -- no frame transfer is under way
 abbrev noFrame : Under → Bool
@@ -267,6 +270,13 @@ own-in Register = omega arith
 own-in (FrameRead c l) = omega arith
 own-in (FrameWrite c l) = omega arith
 
+-- 16, 17 and 18 are the numbers from 16 on that are below 19
+from-three : (P : ℕ → Type 0) → P 16 → P 17 → P 18 → (b : ℕ) → 16 ≤ b → b < 19 → P b
+from-three P x y z b least most =
+    by-flag (eqb b 16) (λ e. rw (eqb-true b 16 e) x)
+    (λ e. by-flag (eqb b 17) (λ f. rw (eqb-true b 17 f) y)
+    (λ f. let last : b ≡ 18 = omega (arith, eqb-false b 16 e, eqb-false b 17 f) in rw last z))
+
 -- ---- the moves, of a record
 
 module _ (r : Buffers) (k : Page) (m : Match r k) where
@@ -334,6 +344,18 @@ module _ (r : Buffers) (k : Page) (m : Match r k) where
 
   own-has : (b : ℕ) → 1 ≤ ownOr (r .under) b → recordHas r b ≡ true
   own-has b h = lt-ltb 0 (countOf r b) (omega (arith, count-is b))
+
+  -- an own buffer is at one place, its own or the transfer's
+  own-placed : (b : ℕ) → b < 19 → 1 ≤ ownOr (r .under) b → T (oneOf (ownPlace ∷ transferPlace ∷ []) (getD (k .places) b clientPlace))
+  own-placed b h o =
+      rw (m .booked .placed b h .1)
+      (own-or-under (ownIn (r .under) b) (slotHas (r .«tx_buf») b) (slotHas (r .«rx_buf») b) (underHas (r .under) b) o
+      (m .booked .placed b h .0))
+
+  pub own-kept : (b : ℕ) → 16 ≤ b → b < 19 → T (oneOf (ownPlace ∷ transferPlace ∷ []) (getD (k .places) b clientPlace))
+  own-kept b least most =
+      let o = own-in (r .under) in
+      own-placed b most (from-three (λ b. 1 ≤ ownOr (r .under) b) (o .0) (o .1) (o .2) b least most)
 
   pub somewhere : ownNowhere r ≡ false
   somewhere = let o = own-in (r .under) in rw (own-has 16 (o .0), own-has 17 (o .1), own-has 18 (o .2))

@@ -1,14 +1,15 @@
 -- Demand 3 (document 01, "The book of custody"): one claim about any list of calls on any new driver, 15's too, with any pool at each call.
 -- The calls are the definitions that the public calls' promises equal (specs/ of rf233: Config, Data, Kernel, Listeners), so that the claim
 -- speaks of the code.
-use Prim.Native.Nat.{ℕ, zero, suc, _+_, _<_}
+use Prim.Native.Nat.{ℕ, zero, suc, _+_, _≤_, _<_}
 use mathlib.Core.Path.{_≡_}
 use mathlib.Core.Bool.{Bool, false, cond}
 use mathlib.Core.List.{List, [], _∷_}
-use lib.Dec.{eqb}
+use lib.Dec.{T, eqb}
 use lib.IntN.{ℤ}
 use lib.ListN.{getD}
 use Rattle.rf233.specs.Action.{actions}
+use Rattle.rf233.specs.Choice.{oneOf}
 use Rattle.rf233.specs.Step.{quiet}
 use Rattle.custody.specs.Book.{Page, Fed, newPage, entered}
 use Rattle.custody.specs.Book.Fed.{lendsTransmit, lendsReceive, completes, other}
@@ -17,8 +18,9 @@ use Rattle.rf233.specs.Kernel.{firedCall, completionCall}
 use Rattle.rf233.specs.Data.{transmitCall, receiveBufferCall}
 use Rattle.rf233.specs.Listeners.{setClient}
 use Rattle.rf233.specs.Driver.{Client}
+use Rattle.rf233.specs.Guard.{Called}
 use Rattle.rf233.specs.Create.{newCall}
-use Rattle.rf233.specs.Place.{clientPlace, placesOf}
+use Rattle.rf233.specs.Place.{clientPlace, ownPlace, transferPlace, placesOf}
 use Rattle.rf233.specs.Record.{recordHas, one}
 use Rattle.rf233.specs.declared.answer.Outcome.{Outcome}
 use Rattle.rf233.specs.declared.driver.Buffers.{Buffers}
@@ -38,23 +40,31 @@ pub data Call : Type 0 where
   power : ℤ → Call
   listener : Client → Bool → Call
 
--- what a call yields on a driver, with this pool
-unfoldable pub yields : Driver → Call → List ℕ → Outcome
-yields d start p = startCall d p .outcome
-yields d stop p = stopCall d p .outcome
-yields d commit p = commitCall d p .outcome
-yields d fire p = firedCall d p .outcome
-yields d query p = quiet d (actions [])
-yields d (complete xs) p = completionCall d xs p .outcome
-yields d (transmit b l n) p = transmitCall d b l n p .outcome
-yields d (receiveBuffer b l) p = receiveBufferCall d b l
-yields d (reset v) p = resetCall d v
-yields d (address a) p = quiet (setAddress d a) (actions [])
-yields d (pan a) p = quiet (setPan d a) (actions [])
-yields d (channel c) p = setChannel d c
-yields d (addressLong l) p = quiet (setAddressLong d l) (actions [])
-yields d (power t) p = setPower d t
-yields d (listener x v) p = quiet (setClient x d v) (actions [])
+-- a call that neither takes a pool nor alters one
+abbrev pub lentNothing : Outcome → List ℕ → Called
+lentNothing o p = record { outcome = o; pool = p }
+
+-- a call made on a driver, with this pool: what it yields, and the pool after it
+unfoldable pub made : Driver → Call → List ℕ → Called
+made d start p = startCall d p
+made d stop p = stopCall d p
+made d commit p = commitCall d p
+made d fire p = firedCall d p
+made d query p = lentNothing (quiet d (actions [])) p
+made d (complete xs) p = completionCall d xs p
+made d (transmit b l n) p = transmitCall d b l n p
+made d (receiveBuffer b l) p = lentNothing (receiveBufferCall d b l) p
+made d (reset v) p = lentNothing (resetCall d v) p
+made d (address a) p = lentNothing (quiet (setAddress d a) (actions [])) p
+made d (pan a) p = lentNothing (quiet (setPan d a) (actions [])) p
+made d (channel c) p = lentNothing (setChannel d c) p
+made d (addressLong l) p = lentNothing (quiet (setAddressLong d l) (actions [])) p
+made d (power t) p = lentNothing (setPower d t) p
+made d (listener x v) p = lentNothing (quiet (setClient x d v) (actions [])) p
+
+-- what it yields
+abbrev pub yields : Driver → Call → List ℕ → Outcome
+yields d c p = made d c p .outcome
 
 -- what the book looks at of a call's arguments
 abbrev pub fed : Call → Fed
@@ -139,6 +149,8 @@ pub record Kept (w : World) : Type 0 where
   pub faultless : w .book .fault ≡ false
   -- the driver's record has each buffer where the book has it and nowhere else
   pub placed : (b : ℕ) → b < 19 → placesOf (w .driver .buffers) b ≡ only (getD (w .book .places) b clientPlace)
+  -- 16, 17 and 18 are each in their own place or in the transfer under way
+  pub own : (b : ℕ) → 16 ≤ b → b < 19 → T (oneOf (ownPlace ∷ transferPlace ∷ []) (getD (w .book .places) b clientPlace))
   -- a transfer is under way in the record exactly when in the book, with the same buffers
   pub kind : kindOf (w .book .kind) ≡ underKind (w .driver .buffers .under)
   pub write : w .book .write ≡ underWrite (w .driver .buffers .under)
