@@ -9,6 +9,6 @@ pub mod Calls
 pub mod CustodyClaim
 pub mod BookCounts
 pub mod Faults
-pub mod Refusal
 pub mod EveryCall
+pub mod Refusal
 pub mod Yield

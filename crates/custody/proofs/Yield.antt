@@ -189,12 +189,12 @@ completion-yields a d =
     }) a d tt
 
 pub six-actions : SixActions
-six-actions =
-    every-call Yields (record {
-      refuses = λ n d t. nothing (answerOf n);
-      rests = λ d. nothing Done;
-      reads = λ x y d. asks 1 x y d (omega arith);
-      writes = λ x y d. asks 2 x y d (omega arith);
-      resets = λ d. with-actions resetActions (omega arith) tt Done noTransfer (omega arith);
-      completes = λ a d e. completion-yields a d;
-    })
+six-actions d c p =
+    every-call d p (λ c t. Yields (t .outcome)) (record {
+      refuses = λ c n e t same. nothing (answerOf n);
+      rests = λ c e q. nothing Done;
+      reads = λ c x y e q. asks 1 x y e (omega arith);
+      writes = λ c x y e q. asks 2 x y e (omega arith);
+      resets = λ c e q. with-actions resetActions (omega arith) tt Done noTransfer (omega arith);
+      completes = λ c a q e. completion-yields a d;
+    }) c
