@@ -4,11 +4,9 @@
 use mathlib.Core.Path.{_≡_, refl, sym, ap, ap₂, _∙_}
 use mathlib.Core.Bool.{Bool}
 use Prim.Native.Nat.{ℕ, _-_, _*_, _/_, _%_, _^_, _<_}
-use native.Mathlib.Nat.{add-zero}
 use lib.Dec.{T, eqb, eqb→eq}
-use lib.Pow.{pow-pos}
-use lib.Bits.{bitAnd, bitXor, and-mask, xor-block}
-use Rattle.fcs.proofs.Xor.{_⊕_, ⊕-shr, ⊕-mod, ⊕-swap}
+use lib.Bits.{bitAnd, bitXor, and-mask}
+use Rattle.fcs.proofs.Xor.{_⊕_, ⊕-shr, ⊕-mod, ⊕-shl, ⊕-swap}
 use Rattle.laws.proofs.Logic.{all-below, below-at}
 use Rattle.fcs.proofs.Turns.{Linear, basis, turns, turns-linear}
 
@@ -37,13 +35,6 @@ value (turned n a) x = turns n (value a x)
 value (a then b) x = value b (value a x)
 
 -- the operations are linear
-shl-linear : (k : ℕ) → Linear (λ x. x * 2 ^ k)
-unfolding _⊕_
-shl-linear k x y =
-    sym (add-zero ((x ⊕ y) * 2 ^ k))
-    ∙ sym (xor-block k x y 0 0 (pow-pos k) (pow-pos k))
-    ∙ ap₂ _⊕_ (add-zero (x * 2 ^ k)) (add-zero (y * 2 ^ k))
-
 low-linear : (k : ℕ) → Linear (λ x. bitAnd x (2 ^ k - 1))
 low-linear k x y = and-mask (x ⊕ y) k ∙ ⊕-mod x y k ∙ sym (ap₂ _⊕_ (and-mask x k) (and-mask y k))
 
@@ -52,7 +43,7 @@ unfolding _⊕_
 linear it x y = refl
 linear (a xor b) x y = ap₂ _⊕_ (linear a x y) (linear b x y) ∙ ⊕-swap (value a x) (value a y) (value b x) (value b y)
 linear (shl w k a) x y =
-    ap (λ (z : ℕ). z * 2 ^ k % 2 ^ w) (linear a x y) ∙ ap (λ (z : ℕ). z % 2 ^ w) (shl-linear k (value a x) (value a y))
+    ap (λ (z : ℕ). z * 2 ^ k % 2 ^ w) (linear a x y) ∙ ap (λ (z : ℕ). z % 2 ^ w) (⊕-shl (value a x) (value a y) k)
     ∙ ⊕-mod (value a x * 2 ^ k) (value a y * 2 ^ k) w
 linear (shr k a) x y = ap (λ (z : ℕ). z / 2 ^ k) (linear a x y) ∙ ⊕-shr (value a x) (value a y) k
 linear (low k a) x y = ap (λ (z : ℕ). bitAnd z (2 ^ k - 1)) (linear a x y) ∙ low-linear k (value a x) (value a y)

@@ -8,13 +8,13 @@ use native.Mathlib.Nat.{mod-lt, pow-suc}
 use native.Mathlib.Numerals.{add-one}
 use native.Mathlib.Omega.{arith}
 use lib.Arith.{lt-one}
-use lib.Pow.{pow-pos, mod-mod-pow, field}
+use lib.Pow.{pow-pos}
 use lib.Bits.{differ}
 use lib.ListN.{length, getD, take, drop, drop-of-length-le}
 use lib.Seq.{take-suc, drop-cons}
 use Rattle.fcs.specs.Fcs.{generator, bitStep, bitSteps, byteStep, fcsFrom, fcsOf}
 use Rattle.fcs.specs.Word.{reduced}
-use Rattle.fcs.proofs.Xor.{differ-lt, _⊕_, ⊕-assoc, ⊕-comm, ⊕-zero, ⊕-lt}
+use Rattle.fcs.proofs.Xor.{differ-lt, low-odd, low-half, _⊕_, ⊕-assoc, ⊕-comm, ⊕-zero, ⊕-lt}
 use Rattle.fcs.proofs.Turns.{turn, turns, turn-xor}
 
 bit-step : (r b : ℕ) → bitStep r (b % 2) ⊕ b / 2 ≡ turn (r ⊕ b)
@@ -40,16 +40,16 @@ pub byte-step : (r b : ℕ) → b < 256 → byteStep r b ≡ turns 8 (r ⊕ b)
 unfolding byteStep
 byte-step r b h = bit-steps 8 r b h
 
-bit-step-lt : (r b : ℕ) → r < 2 ^ 16 → bitStep r (b % 2) < 2 ^ 16
+pub bit-step-lt : (r b : ℕ) → b < 2 → r < 2 ^ 16 → bitStep r b < 2 ^ 16
 unfolding bitStep _⊕_
-bit-step-lt r b h =
-    let d : differ (r % 2) (b % 2) < 2 = differ-lt (r % 2) (b % 2) (mod-lt r (omega arith)) (mod-lt b (omega arith)) in
-    ⊕-lt 16 (r / 2) (differ (r % 2) (b % 2) * generator) (omega arith) (omega arith)
+bit-step-lt r b hb h =
+    let d : differ (r % 2) b < 2 = differ-lt (r % 2) b (mod-lt r (omega arith)) hb in
+    ⊕-lt 16 (r / 2) (differ (r % 2) b * generator) (omega arith) (omega arith)
 
 bit-steps-lt : (n r b : ℕ) → r < 2 ^ 16 → bitSteps n r b < 2 ^ 16
 unfolding bitSteps
 bit-steps-lt zero r b h = h
-bit-steps-lt (suc n) r b h = bit-steps-lt n (bitStep r (b % 2)) (b / 2) (bit-step-lt r b h)
+bit-steps-lt (suc n) r b h = bit-steps-lt n (bitStep r (b % 2)) (b / 2) (bit-step-lt r (b % 2) (mod-lt b (omega arith)) h)
 
 pub byte-step-lt : (r b : ℕ) → r < 2 ^ 16 → byteStep r b < 2 ^ 16
 unfolding byteStep
@@ -60,9 +60,8 @@ bit-steps-low : (n r b : ℕ) → bitSteps n r b ≡ bitSteps n r (b % 2 ^ n)
 unfolding bitSteps
 bit-steps-low zero r b = refl
 bit-steps-low (suc n) r b =
-    let odd : b % 2 ^ suc n % 2 ≡ b % 2 = ap (λ (k : ℕ). b % 2 ^ k % 2) (sym (add-one n)) ∙ mod-mod-pow b n 1 in
-    let half : b % 2 ^ suc n / 2 ≡ b / 2 % 2 ^ n = ap (λ (k : ℕ). b % 2 ^ k / 2) (sym (add-one n)) ∙ field b n 1 in
-    bit-steps-low n (bitStep r (b % 2)) (b / 2) ∙ ap₂ (λ (d h : ℕ). bitSteps n (bitStep r d) h) (sym odd) (sym half)
+    bit-steps-low n (bitStep r (b % 2)) (b / 2)
+    ∙ ap₂ (λ (d h : ℕ). bitSteps n (bitStep r d) h) (sym (low-odd n b)) (sym (low-half n b))
 
 pub byte-step-low : (r b : ℕ) → byteStep r b ≡ byteStep r (b % 256)
 unfolding byteStep

@@ -9,7 +9,8 @@ use lib.Arith.{lt-one}
 use lib.Pow.{pow-pos, shr-lt, split}
 use lib.Bits.{differ, xor-step, xor-zero-r, xor-block}
 use Rattle.fcs.specs.Fcs.{generator}
-use Rattle.fcs.proofs.Xor.{digit, xor-odd, _⊕_, ⊕-assoc, ⊕-comm, ⊕-zero, ⊕-zero-left, ⊕-self, ⊕-lt, ⊕-shr, ⊕-split, ⊕-swap, ⊕-same}
+use Rattle.fcs.proofs.Xor.{digit, _⊕_, ⊕-assoc, ⊕-comm, ⊕-zero, ⊕-zero-left, ⊕-self, ⊕-lt, ⊕-shr, ⊕-odd, ⊕-split}
+use Rattle.fcs.proofs.Xor.{⊕-scaled, ⊕-swap, ⊕-same}
 
 -- a function that takes a xor to the xor of its values
 abbrev pub Linear : (ℕ → ℕ) → Type 0
@@ -82,16 +83,6 @@ unfoldable pub turns : ℕ → ℕ → ℕ
 turns zero x = x
 turns (suc n) x = turns n (turn x)
 
-scaled : (x y : ℕ) → x < 2 → y < 2 → differ x y * generator ≡ x * generator ⊕ y * generator
-unfolding _⊕_
-scaled x y hx hy =
-    digit (λ (x : ℕ). differ x y * generator ≡ x * generator ⊕ y * generator) refl
-    (digit (λ (y : ℕ). differ 1 y * generator ≡ 1 * generator ⊕ y * generator) refl refl y hy) x hx
-
-⊕-odd : (x y : ℕ) → (x ⊕ y) % 2 ≡ differ (x % 2) (y % 2)
-unfolding _⊕_
-⊕-odd = xor-odd
-
 -- a turn of a xor, with the generator taken where the lowest digits differ
 pub turn-xor : (x y : ℕ) → turn (x ⊕ y) ≡ differ (x % 2) (y % 2) * generator ⊕ (x / 2 ⊕ y / 2)
 turn-xor x y = turn-is (x ⊕ y) ∙ ap₂ (λ (p q : ℕ). p * generator ⊕ q) (⊕-odd x y) (⊕-shr x y 1)
@@ -99,7 +90,7 @@ turn-xor x y = turn-is (x ⊕ y) ∙ ap₂ (λ (p q : ℕ). p * generator ⊕ q)
 pub turn-linear : Linear turn
 turn-linear x y =
     turn-xor x y
-    ∙ ap (λ (p : ℕ). p ⊕ (x / 2 ⊕ y / 2)) (scaled (x % 2) (y % 2) (mod-lt x (omega arith)) (mod-lt y (omega arith)))
+    ∙ ap (λ (p : ℕ). p ⊕ (x / 2 ⊕ y / 2)) (⊕-scaled (x % 2) (y % 2) generator (mod-lt x (omega arith)) (mod-lt y (omega arith)))
     ∙ ⊕-swap (x % 2 * generator) (y % 2 * generator) (x / 2) (y / 2)
     ∙ sym (ap₂ _⊕_ (turn-is x) (turn-is y))
 

@@ -2,11 +2,12 @@
 -- Assumes nothing.
 use mathlib.Core.Path.{_≡_, refl, sym, ap, ap₂, _∙_}
 use Prim.Native.Nat.{ℕ, zero, suc, _+_, _*_, _/_, _%_, _^_, _<_}
-use native.Mathlib.Nat.{mod-lt}
+use native.Mathlib.Nat.{mod-lt, add-zero, zero-mul}
+use native.Mathlib.Numerals.{add-one}
 use native.Mathlib.Omega.{arith}
 use lib.Arith.{bin-ind, digits-mod}
-use lib.Pow.{pow-pos, split}
-use lib.Bits.{bitXor, differ, xor-step, xor-comm, xor-zero-r, xor-self, xor-shr, xor-mod, xor-lt, xor-shifted}
+use lib.Pow.{pow-pos, split, mod-mod-pow, field}
+use lib.Bits.{bitXor, differ, xor-step, xor-comm, xor-zero-r, xor-self, xor-shr, xor-mod, xor-lt, xor-block, xor-shifted}
 
 -- a number below 2 is 0 or 1
 pub digit : (P : ℕ → Type 0) → P 0 → P 1 → (x : ℕ) → x < 2 → P x
@@ -24,8 +25,15 @@ differ-assoc x y z hx hy hz =
     (digit (λ (y : ℕ). differ (differ 1 y) z ≡ differ 1 (differ y z)) refl
     (digit (λ (z : ℕ). differ (differ 1 1) z ≡ differ 1 (differ 1 z)) refl refl z hz) y hy) x hx
 
+-- the lowest digit of a number's lowest digits, and the others
+pub low-odd : (n b : ℕ) → b % 2 ^ suc n % 2 ≡ b % 2
+low-odd n b = ap (λ (k : ℕ). b % 2 ^ k % 2) (sym (add-one n)) ∙ mod-mod-pow b n 1
+
+pub low-half : (n b : ℕ) → b % 2 ^ suc n / 2 ≡ b / 2 % 2 ^ n
+low-half n b = ap (λ (k : ℕ). b % 2 ^ k / 2) (sym (add-one n)) ∙ field b n 1
+
 -- the lowest digit of a xor
-pub xor-odd : (a b : ℕ) → bitXor a b % 2 ≡ differ (a % 2) (b % 2)
+xor-odd : (a b : ℕ) → bitXor a b % 2 ≡ differ (a % 2) (b % 2)
 xor-odd a b =
     ap (λ (x : ℕ). x % 2) (xor-step a b)
     ∙ digits-mod (bitXor (a / 2) (b / 2)) (differ-lt (a % 2) (b % 2) (mod-lt a (omega arith)) (mod-lt b (omega arith)))
@@ -78,6 +86,17 @@ pub ⊕-mod : (a b k : ℕ) → (a ⊕ b) % 2 ^ k ≡ a % 2 ^ k ⊕ b % 2 ^ k
 unfolding _⊕_
 ⊕-mod = xor-mod
 
+pub ⊕-odd : (a b : ℕ) → (a ⊕ b) % 2 ≡ differ (a % 2) (b % 2)
+unfolding _⊕_
+⊕-odd = xor-odd
+
+pub ⊕-shl : (a b k : ℕ) → (a ⊕ b) * 2 ^ k ≡ a * 2 ^ k ⊕ b * 2 ^ k
+unfolding _⊕_
+⊕-shl a b k =
+    sym (add-zero ((a ⊕ b) * 2 ^ k))
+    ∙ sym (xor-block k a b 0 0 (pow-pos k) (pow-pos k))
+    ∙ ap₂ _⊕_ (add-zero (a * 2 ^ k)) (add-zero (b * 2 ^ k))
+
 -- a number is the sum of its parts above and below a place
 pub ⊕-shifted : (a k b : ℕ) → b < 2 ^ k → a * 2 ^ k ⊕ b ≡ a * 2 ^ k + b
 unfolding _⊕_
@@ -89,6 +108,13 @@ pub ⊕-split : (a k : ℕ) → a ≡ a / 2 ^ k * 2 ^ k ⊕ a % 2 ^ k
 pub ⊕-zero-left : (a : ℕ) → 0 ⊕ a ≡ a
 unfolding _⊕_
 ⊕-zero-left a = refl
+
+-- a number taken where one of two digits is 1, but not both
+pub ⊕-scaled : (x y p : ℕ) → x < 2 → y < 2 → differ x y * p ≡ x * p ⊕ y * p
+⊕-scaled x y p hx hy =
+    digit (λ (x : ℕ). differ x y * p ≡ x * p ⊕ y * p) (sym (ap (λ (n : ℕ). n ⊕ y * p) (zero-mul p) ∙ ⊕-zero-left (y * p)))
+    (digit (λ (y : ℕ). differ 1 y * p ≡ 1 * p ⊕ y * p) (sym (ap (λ (n : ℕ). 1 * p ⊕ n) (zero-mul p) ∙ ⊕-zero (1 * p)))
+    (zero-mul p ∙ sym (⊕-self (1 * p))) y hy) x hx
 
 -- the middle two of four change places
 pub ⊕-swap : (a b c d : ℕ) → (a ⊕ b) ⊕ (c ⊕ d) ≡ (a ⊕ c) ⊕ (b ⊕ d)

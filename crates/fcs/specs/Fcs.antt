@@ -1,5 +1,5 @@
--- The frame check sequence (FCS) of IEEE 802.15.4, bit by bit: the remainder modulo x^16 + x^12 + x^5 + 1, from 0, bit 0 of each byte
--- first.
+-- The frame check sequence (FCS) of IEEE 802.15.4, bit by bit: a register that starts at 0 and takes bit 0 of each byte first. Its bits are
+-- those of the remainder modulo x^16 + x^12 + x^5 + 1 (`check-is-remainder`, stated in `Polynomial`).
 -- Assumes nothing.
 use Prim.Native.Nat.{ℕ, zero, suc, _*_, _/_, _%_}
 use mathlib.Core.List.{List, [], _∷_}

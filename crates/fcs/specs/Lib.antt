@@ -1,3 +1,4 @@
 pub mod Fcs
+pub mod Polynomial
 pub mod Word
 pub mod Flip
