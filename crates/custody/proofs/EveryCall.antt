@@ -26,7 +26,7 @@ use Rattle.rf233.specs.declared.arrived.Arrived.{Arrived}
 use Rattle.rf233.specs.declared.driver.Driver.{Driver}
 use Rattle.rf233.proofs.ChoiceLaws.{branch, either}
 use Rattle.rf233.proofs.Sound.{driver-right}
-use Rattle.custody.specs.Claim.{Call, made, lentNothing}
+use Rattle.custody.specs.Claim.{Call, made, withPool}
 use Rattle.custody.specs.Claim.Call.{
   start,
   stop,
@@ -56,12 +56,12 @@ pub record OfCalls (d : Driver) (p : List ℕ) (P : Call → Called → Type 0) 
   pub refuses : (c : Call) (n : ℕ) (e : Driver) → T (leb (answerNo (answerOf n)) 14) → e ≡ leftBy c (answerNo (answerOf n)) d
       → P c (refusing n e p)
   -- a step that starts nothing, and the two register transfers, whatever the pool is then
-  pub rests : (c : Call) (e : Driver) (q : List ℕ) → P c (lentNothing (quiet e (actions [])) q)
-  pub reads : (c : Call) (x y : ℕ) (e : Driver) (q : List ℕ) → P c (lentNothing (stepOf (registerTransfer 1 x y e) (actions [])) q)
-  pub writes : (c : Call) (x y : ℕ) (e : Driver) (q : List ℕ) → P c (lentNothing (stepOf (registerTransfer 2 x y e) (actions [])) q)
-  pub resets : (c : Call) (e : Driver) (q : List ℕ) → P c (lentNothing (quiet e (actions resetActions)) q)
+  pub rests : (c : Call) (e : Driver) (q : List ℕ) → P c (withPool (quiet e (actions [])) q)
+  pub reads : (c : Call) (x y : ℕ) (e : Driver) (q : List ℕ) → P c (withPool (stepOf (registerTransfer 1 x y e) (actions [])) q)
+  pub writes : (c : Call) (x y : ℕ) (e : Driver) (q : List ℕ) → P c (withPool (stepOf (registerTransfer 2 x y e) (actions [])) q)
+  pub resets : (c : Call) (e : Driver) (q : List ℕ) → P c (withPool (quiet e (actions resetActions)) q)
   -- a completion of a driver value that refusal 12 does not describe
-  pub completes : (c : Call) (a : Arrived) (q : List ℕ) → described d ≡ false → P c (lentNothing (completed a d) q)
+  pub completes : (c : Call) (a : Arrived) (q : List ℕ) → described d ≡ false → P c (withPool (completed a d) q)
 
 module _ (d : Driver) (p : List ℕ) (P : Call → Called → Type 0) (of : OfCalls d p P) where
   -- a step, its transfer's command bytes written
@@ -70,7 +70,7 @@ module _ (d : Driver) (p : List ℕ) (P : Call → Called → Type 0) (of : OfCa
 
   -- a call that takes no pool
   abbrev Alone : Call → Outcome → Type 0
-  Alone c o = P c (lentNothing o p)
+  Alone c o = P c (withPool o p)
 
   of-start : P start (startCall d p)
   unfolding startCall beginStart

@@ -40,9 +40,9 @@ pub data Call : Type 0 where
   power : ℤ → Call
   listener : Client → Bool → Call
 
--- a call that neither takes a pool nor alters one
-abbrev pub lentNothing : Outcome → List ℕ → Called
-lentNothing o p = record { outcome = o; pool = p }
+-- what was yielded, with this pool after it
+abbrev pub withPool : Outcome → List ℕ → Called
+withPool o p = record { outcome = o; pool = p }
 
 -- a call made on a driver, with this pool: what it yields, and the pool after it
 unfoldable pub made : Driver → Call → List ℕ → Called
@@ -50,17 +50,17 @@ made d start p = startCall d p
 made d stop p = stopCall d p
 made d commit p = commitCall d p
 made d fire p = firedCall d p
-made d query p = lentNothing (quiet d (actions [])) p
+made d query p = withPool (quiet d (actions [])) p
 made d (complete xs) p = completionCall d xs p
 made d (transmit b l n) p = transmitCall d b l n p
-made d (receiveBuffer b l) p = lentNothing (receiveBufferCall d b l) p
-made d (reset v) p = lentNothing (resetCall d v) p
-made d (address a) p = lentNothing (quiet (setAddress d a) (actions [])) p
-made d (pan a) p = lentNothing (quiet (setPan d a) (actions [])) p
-made d (channel c) p = lentNothing (setChannel d c) p
-made d (addressLong l) p = lentNothing (quiet (setAddressLong d l) (actions [])) p
-made d (power t) p = lentNothing (setPower d t) p
-made d (listener x v) p = lentNothing (quiet (setClient x d v) (actions [])) p
+made d (receiveBuffer b l) p = withPool (receiveBufferCall d b l) p
+made d (reset v) p = withPool (resetCall d v) p
+made d (address a) p = withPool (quiet (setAddress d a) (actions [])) p
+made d (pan a) p = withPool (quiet (setPan d a) (actions [])) p
+made d (channel c) p = withPool (setChannel d c) p
+made d (addressLong l) p = withPool (quiet (setAddressLong d l) (actions [])) p
+made d (power t) p = withPool (setPower d t) p
+made d (listener x v) p = withPool (quiet (setClient x d v) (actions [])) p
 
 -- what it yields
 abbrev pub yields : Driver → Call → List ℕ → Outcome

@@ -1,13 +1,6 @@
 // `replay`: a script of calls on standard input, the driver's answers, or with the argument `trace` its trace blocks, on standard output.
-mod area;
-mod call;
-mod ending;
-mod perform;
-mod run;
-mod stream;
-mod tracing;
-
 use libc::STDERR_FILENO;
+use replay_run::replay;
 
 // What the arguments ask for.
 enum Asked {
@@ -28,26 +21,6 @@ fn asked_for() -> Asked {
         return Asked::Trace;
     }
     Asked::Unknown
-}
-
-// The text of a line, the bytes that it names, the area that the pool is a part of and the one that `mark` keeps, and what is read and
-// to be written.
-fn replay(traced: bool) {
-    let mut input = io::large_buffer();
-    let mut text = [0u8; 1024];
-    let mut bytes = [0u8; 1024];
-    let mut area = io::buffer();
-    let mut kept = io::buffer();
-    let mut out = io::large_buffer();
-    stream::run_script(
-        traced,
-        &mut input,
-        &mut text,
-        &mut bytes,
-        &mut area,
-        &mut kept,
-        &mut out,
-    );
 }
 
 // Says on standard error how the program is called.
