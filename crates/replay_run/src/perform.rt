@@ -11,7 +11,6 @@ use custody::book::enter;
 use custody::book::new_book;
 use rf233::answer::Outcome;
 use rf233::answer::answer_number;
-use rf233::driver::Driver;
 use rf233::state::state_number;
 use script::line::Line;
 use script::parse::parse;

@@ -1,7 +1,6 @@
 // A run as a value: what a script has changed so far, but for the area's bytes.
 use custody::book::Book;
 use custody::book::new_book;
-use rf233::answer::Outcome;
 use rf233::create::new;
 use rf233::driver::Driver;
 
