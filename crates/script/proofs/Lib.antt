@@ -1,2 +1,5 @@
+pub mod ArgumentLaws
 pub mod Digits
+pub mod ParseLaws
 pub mod Signed
+pub mod WordLaws

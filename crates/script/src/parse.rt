@@ -16,12 +16,26 @@ use crate::arguments::transmit_line;
 use crate::line::Line;
 use crate::words::word_end;
 use check::same;
+ghost use lib.ListN.{length};
+ghost use Rattle.script.specs.Words.{wordsFrom};
+ghost use Rattle.script.specs.Arguments.{Reads};
+ghost use Rattle.script.specs.Parse.{
+  table,
+  fromSettings,
+  fromListeners,
+  fromQueries,
+  aroundRows,
+  formOf,
+  Parsed,
+};
 
 // The longest line, without its line feed.
 const LONGEST: usize = 1024;
 
 // The line, given without its line feed. The bytes that it names go into `bytes`.
-pub fn parse(line: &[u8], bytes: &mut [u8]) -> Line {
+pub fn parse(line: &[u8], bytes: &mut [u8]) -> Line
+    ensures { λ r. ⌜ Parsed (now (line .entry)) (now (bytes .entry)) (now (bytes .exit)) r ⌝ }
+{
     if LONGEST < line.len() {
         return Line::Malformed;
     }
@@ -35,20 +49,16 @@ pub fn parse(line: &[u8], bytes: &mut [u8]) -> Line {
     call(line, &line[0..end], bytes)
 }
 
-// The calls of the kernel, those that lend a buffer, and those that turn the radio on and off.
-fn call(line: &[u8], name: &[u8], bytes: &mut [u8]) -> Line {
+// The calls that a new driver, the radio's states, the kernel and a lent buffer have, in the order of the format's table.
+fn call(line: &[u8], name: &[u8], bytes: &mut [u8]) -> Line
+    ensures { λ r. ⌜
+        Reads (formOf table (now (name .entry))) (wordsFrom (now (line .entry)) (length (now (name .entry)))) (now (bytes .entry))
+        (now (bytes .exit)) r
+        ⌝ }
+{
     let at = name.len();
-    if same(name, b"read_write_done") {
-        return done_line(line, at, bytes);
-    }
-    if same(name, b"fired") {
-        return plain(line, at, Line::Fired);
-    }
-    if same(name, b"transmit") {
-        return transmit_line(line, at);
-    }
-    if same(name, b"set_receive_buffer") {
-        return receive_buffer_line(line, at);
+    if same(name, b"new") {
+        return new_line(line, at);
     }
     if same(name, b"start") {
         return plain(line, at, Line::Start);
@@ -59,17 +69,31 @@ fn call(line: &[u8], name: &[u8], bytes: &mut [u8]) -> Line {
     if same(name, b"config_commit") {
         return plain(line, at, Line::ConfigCommit);
     }
+    if same(name, b"fired") {
+        return plain(line, at, Line::Fired);
+    }
+    if same(name, b"read_write_done") {
+        return done_line(line, at, bytes);
+    }
+    if same(name, b"transmit") {
+        return transmit_line(line, at);
+    }
+    if same(name, b"set_receive_buffer") {
+        return receive_buffer_line(line, at);
+    }
     if same(name, b"reset") {
         return flag(line, at, Line::Reset(true), Line::Reset(false));
-    }
-    if same(name, b"new") {
-        return new_line(line, at);
     }
     setting(line, name, bytes)
 }
 
 // The settings: the addresses, the PAN, the power and the channel.
-fn setting(line: &[u8], name: &[u8], bytes: &mut [u8]) -> Line {
+fn setting(line: &[u8], name: &[u8], bytes: &mut [u8]) -> Line
+    ensures { λ r. ⌜
+        Reads (formOf fromSettings (now (name .entry))) (wordsFrom (now (line .entry)) (length (now (name .entry)))) (now (bytes .entry))
+        (now (bytes .exit)) r
+        ⌝ }
+{
     let at = name.len();
     if same(name, b"set_address") {
         return address_line(line, at);
@@ -90,7 +114,12 @@ fn setting(line: &[u8], name: &[u8], bytes: &mut [u8]) -> Line {
 }
 
 // The lines that say whether a listener is there.
-fn listener(line: &[u8], name: &[u8], bytes: &mut [u8]) -> Line {
+fn listener(line: &[u8], name: &[u8], bytes: &mut [u8]) -> Line
+    ensures { λ r. ⌜
+        Reads (formOf fromListeners (now (name .entry))) (wordsFrom (now (line .entry)) (length (now (name .entry)))) (now (bytes .entry))
+        (now (bytes .exit)) r
+        ⌝ }
+{
     let at = name.len();
     if same(name, b"set_power_client") {
         return flag(
@@ -128,7 +157,12 @@ fn listener(line: &[u8], name: &[u8], bytes: &mut [u8]) -> Line {
 }
 
 // The calls that return a value, and `initialize`.
-fn query(line: &[u8], name: &[u8], bytes: &mut [u8]) -> Line {
+fn query(line: &[u8], name: &[u8], bytes: &mut [u8]) -> Line
+    ensures { λ r. ⌜
+        Reads (formOf fromQueries (now (name .entry))) (wordsFrom (now (line .entry)) (length (now (name .entry)))) (now (bytes .entry))
+        (now (bytes .exit)) r
+        ⌝ }
+{
     let at = name.len();
     if same(name, b"initialize") {
         return plain(line, at, Line::Initialize);
@@ -158,7 +192,12 @@ fn query(line: &[u8], name: &[u8], bytes: &mut [u8]) -> Line {
 }
 
 // The lines that are not calls.
-fn around_calls(line: &[u8], name: &[u8], bytes: &mut [u8]) -> Line {
+fn around_calls(line: &[u8], name: &[u8], bytes: &mut [u8]) -> Line
+    ensures { λ r. ⌜
+        Reads (formOf aroundRows (now (name .entry))) (wordsFrom (now (line .entry)) (length (now (name .entry)))) (now (bytes .entry))
+        (now (bytes .exit)) r
+        ⌝ }
+{
     let at = name.len();
     if same(name, b"pool") {
         return pool_line(line, at, bytes);

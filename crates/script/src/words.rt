@@ -1,10 +1,9 @@
 // The words of a line: names, and decimal numbers in their ranges. A second space makes an empty word, which nothing accepts.
 
 ghost use mathlib.Core.Path.{_≡_};
-ghost use mathlib.Core.Bool.{true, false};
-ghost use Prim.Native.Nat.{_≤_, _<_};
-ghost use lib.ListN.{length};
+ghost use Prim.Native.Nat.{_≤_};
 ghost use Rattle.script.specs.Decimal.{noDecimal, decimalOf};
+ghost use Rattle.script.specs.Words.{wordEnd, noWord, numberAt, lastAt};
 
 // A number, or none where `good` is false.
 pub struct Decimal {
@@ -21,7 +20,7 @@ pub struct Word {
 
 // Where the word that begins at `from` ends: at the next space, or at the end of the line.
 pub fn word_end(line: &[u8], from: usize) -> usize
-    ensures { λ r. ⌜ (r ≤ length (now (line .entry))) × (from ≤ length (now (line .entry)) → from ≤ r) ⌝ }
+    ensures { λ r. ⌜ r ≡ wordEnd (now (line .entry)) from ⌝ }
 {
     let mut i = from;
     while i < line.len() {
@@ -30,7 +29,7 @@ pub fn word_end(line: &[u8], from: usize) -> usize
         }
         i += 1;
     }
-    line.len()
+    i
 }
 
 // No number: `good` is false.
@@ -82,7 +81,7 @@ pub fn digits(word: &[u8]) -> Decimal
 
 // No number: what is left of the line is passed over.
 fn no_word(line: &[u8]) -> Word
-    ensures { λ r. ⌜ (r .good ≡ false) × (r .value ≡ 0) × (r .end ≡ length (now (line .entry))) ⌝ }
+    ensures { λ r. ⌜ r ≡ noWord (now (line .entry)) ⌝ }
 {
     Word {
         good: false,
@@ -93,7 +92,7 @@ fn no_word(line: &[u8]) -> Word
 
 // The next word of the line after place `at`, a number of at most `greatest`.
 pub fn number(line: &[u8], at: usize, greatest: u64) -> Word
-    ensures { λ r. ⌜ (r .value ≤ greatest) × (r .end ≤ length (now (line .entry))) × (at < length (now (line .entry)) → at < r .end) ⌝ }
+    ensures { λ r. ⌜ (r ≡ numberAt (now (line .entry)) at greatest) × (r .value ≤ greatest) ⌝ }
 {
     if line.len() <= at {
         return no_word(line);
@@ -115,7 +114,7 @@ pub fn number(line: &[u8], at: usize, greatest: u64) -> Word
 
 // The same, where it is the line's last word.
 pub fn last_number(line: &[u8], at: usize, greatest: u64) -> Word
-    ensures { λ r. ⌜ r .value ≤ greatest ⌝ }
+    ensures { λ r. ⌜ (r ≡ lastAt (now (line .entry)) at greatest) × (r .value ≤ greatest) ⌝ }
 {
     let w = number(line, at, greatest);
     if w.end == line.len() {

@@ -1,17 +1,15 @@
 -- What the book is fed of a call has the buffer's number as a byte. To a book of 19 places that is the same as the call itself
 -- (`same-entry`): a number past a byte is no buffer's, and neither is 255. Assumes nothing.
 use Prim.Native.Nat.{ℕ, _≤_}
-use mathlib.Core.Path.{_≡_, refl, ap}
-use mathlib.Core.Bool.{cond}
+use mathlib.Core.Path.{_≡_, refl}
 use native.Mathlib.Omega.{arith}
-use lib.Dec.{eqb, ltb, lit<}
+use lib.Dec.{ltb}
 use lib.ListN.{length}
 use lib.Seq.{set-out}
 use borrow.Author.Tests.{lt-ltb, ltb-false}
-use Rattle.custody.specs.Book.{Fed, Page, brought, called, begun, entered, notedAll, turnedDown}
+use Rattle.custody.specs.Book.{Fed, Page, brought, called, entered}
 use Rattle.custody.specs.Book.Fed.{lendsTransmit, lendsReceive, completes, other}
 use Rattle.rf233.proofs.Conditions.{by-flag}
-use Rattle.rf233.specs.Answer.{answerNo}
 use Rattle.rf233.specs.declared.answer.Reply.{Reply}
 use Rattle.scripted.specs.Feeding.{inByte, shortened}
 

@@ -1,7 +1,6 @@
 -- What a line of a script asks for: one of the calls that the claims of custody and of traces speak of, a new driver, or neither. And what
 -- is then done.
 use Prim.Native.Nat.{ℕ}
-use mathlib.Core.Bool.{Bool}
 use mathlib.Core.List.{List, [], _∷_}
 use lib.ListN.{getD, take}
 use Rattle.custody.specs.Claim.{Call, made, withPool}
@@ -27,7 +26,6 @@ use Rattle.rf233.specs.Create.{newCall}
 use Rattle.rf233.specs.Driver.Client.{cfgClient, powerClient, rxClient, txClient}
 use Rattle.rf233.specs.Guard.{Called}
 use Rattle.rf233.specs.Step.{quiet}
-use Rattle.rf233.specs.declared.answer.Outcome.{Outcome}
 use Rattle.rf233.specs.declared.driver.Driver.{Driver}
 use Rattle.script.specs.declared.line.Line.{Line}
 use Rattle.script.specs.declared.line.Line.the-variants as line

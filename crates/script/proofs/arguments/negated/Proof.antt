@@ -1,4 +1,4 @@
--- `negated` is safe: the difference fits 64 bits, and what it is fits eight. Assumes nothing.
+-- `negated` meets its contract: the difference fits 64 bits, and what it is fits eight. Assumes nothing.
 use borrow.Author.Needs.{needs}
 use mir.Facts.{toZ-ofZ}
 use Rattle.script.proofs.Signed.{wider, reads, minus-small}
@@ -13,7 +13,12 @@ cast-result-2 c =
     let h = minus-small (c .args .size) (c .pre) in
     rw (reads (c .args .size) (c .pre), toZ-ofZ (wider _ h)) h
 
+returns : tie.Need-returns
+returns c =
+    let h = minus-small (c .args .size) (c .pre) in
+    rw (reads (c .args .size) (c .pre), toZ-ofZ (wider _ h), toZ-ofZ h)
+
 pub negated-spec : {M : Type 1} → statement M
 negated-spec =
     tie.close
-    (tie.spec (λ c. search needs) sub-result cast-result-2 (λ c. search needs))
+    (tie.spec (λ c. search needs) sub-result cast-result-2 returns)
