@@ -2,15 +2,17 @@
 -- that `start`'s ALREADY (6) withdraws a waiting stop. It is said of the calls of demand 3 (Claim.antt), so that a new call joins both.
 use Prim.Native.Nat.{ℕ}
 use mathlib.Core.Path.{_≡_}
-use mathlib.Core.Bool.{Bool, false, cond}
-use mathlib.Core.List.{List, []}
-use lib.Dec.{eqb}
+use mathlib.Core.Bool.{Bool, true, false, cond}
+use mathlib.Core.List.{List, [], _∷_}
+use lib.Dec.{T, eqb}
 use Rattle.rf233.specs.Action.{actions}
 use Rattle.rf233.specs.Answer.{answerNo, refused}
+use Rattle.rf233.specs.Choice.{oneOf}
 use Rattle.rf233.specs.Create.{newDriver, newCall}
 use Rattle.rf233.specs.Driver.{flagged}
 use Rattle.rf233.specs.Driver.Flag.{sleepPending}
 use Rattle.rf233.specs.Guard.{Called}
+use Rattle.rf233.specs.Record.{recordHas}
 use Rattle.rf233.specs.Transfer.{noTransfer}
 use Rattle.rf233.specs.declared.driver.Driver.{Driver}
 use Rattle.custody.specs.Claim.{Call, made}
@@ -74,3 +76,11 @@ RefusedAltersNothing =
 -- and of `new`, which has no driver and no pool to alter: what it refuses is 15, with the driver of 129 and channel 26 beside it
 abbrev pub RefusedNew : Type 0
 RefusedNew = (l c : ℕ) → (answerNo (newCall l c .reply .answer) ≡ 0 → ⊥) → newCall l c ≡ refused 15 (newDriver 129 26)
+
+-- a buffer that the driver has is not lent again, whatever the driver value, the lengths and the pool: the answer is one of the call's
+-- refusals, the last of which is 8
+abbrev pub HeldIsRefused : Type 0
+HeldIsRefused =
+    (d : Driver) (b l : ℕ) (p : List ℕ) → recordHas (d .buffers) b ≡ true
+    → ((n : ℕ) → T (oneOf (12 ∷ 7 ∷ 1 ∷ 2 ∷ 3 ∷ 4 ∷ 8 ∷ []) (answered (made d (transmit b l n) p))))
+    × T (oneOf (7 ∷ 9 ∷ 10 ∷ 8 ∷ []) (answered (made d (receiveBuffer b l) p)))
