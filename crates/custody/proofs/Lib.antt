@@ -11,4 +11,5 @@ pub mod BookCounts
 pub mod Faults
 pub mod EveryCall
 pub mod Refusal
+pub mod Shown
 pub mod Yield

@@ -8,7 +8,7 @@ use native.Mathlib.Omega.{arith}
 use lib.Dec.{T, leb}
 use lib.ListN.{length, getD, take, replicate}
 use borrow.Author.Tests.{leb-true}
-use Rattle.laws.proofs.Logic.{left, right, pair, is-true, all-below}
+use Rattle.laws.proofs.Logic.{left, right, is-true, all-below}
 use Rattle.rf233.specs.Action.{item, actions}
 use Rattle.rf233.specs.Answer.{answerOf}
 use Rattle.rf233.specs.Case.{perform, caseOf, ownCase, shown, accessed, entering, trees, treeAt}
@@ -16,10 +16,9 @@ use Rattle.rf233.specs.Completion.{fallsOn, completed}
 use Rattle.rf233.specs.Driver.{assigning}
 use Rattle.rf233.specs.Interrupt.{handleInterrupt}
 use Rattle.rf233.specs.Record.{one}
-use Rattle.rf233.specs.Rows.{Access, Shown, Row}
+use Rattle.rf233.specs.Rows.{Access, Row}
 use Rattle.rf233.specs.Rows.Access.{none, reads, writes, readsLength, readsFrame, writesFrame}
 use Rattle.rf233.specs.Rows.Row.{does}
-use Rattle.rf233.specs.Rows.Shown.{plain, powerChanged, configDone, sentBack, droppedBack, receivedBack}
 use Rattle.rf233.specs.Starter.{registerTransfer, frameReadInto, frameWriteFrom, begun}
 use Rattle.rf233.specs.Step.{stepOf}
 use Rattle.rf233.specs.declared.action.Action.{Action}
@@ -41,13 +40,9 @@ use Rattle.custody.specs.Book.{isAct}
 use Rattle.custody.specs.Yield.{actCount, Yield, SixActions}
 use Rattle.custody.proofs.Actions.{fewer}
 use Rattle.custody.proofs.EveryCall.{resetActions, every-call}
+use Rattle.custody.proofs.Shown.{passes, plainly, Notices, all-pass}
 
 -- ---- a list of at most six actions, in its six places
-
--- none of them is `Nothing`
-abbrev allAct : List Action → Bool
-allAct [] = true
-allAct (x ∷ l) = isAct x && allAct l
 
 -- the first n places of a list with m of `Nothing` behind it
 abbrev held : ℕ → ℕ → List Action → List Action
@@ -62,7 +57,7 @@ in-places n l = go n n l (omega arith)
     go (suc n) (suc m) [] h = ap suc (go n m [] (omega arith))
     go (suc n) (suc m) (x ∷ l) h = ap suc (go n (suc m) l (omega arith))
 
-counts : (n m : ℕ) (l : List Action) → length l ≤ n → T (allAct l) → length l ≡ actCount (map item (held n m l))
+counts : (n m : ℕ) (l : List Action) → length l ≤ n → T (passes isAct l) → length l ≡ actCount (map item (held n m l))
 counts zero m [] h t = refl
 counts zero m (x ∷ l) h t = absurd (omega arith)
 counts (suc n) zero [] h t = refl
@@ -70,7 +65,7 @@ counts (suc n) (suc m) [] h t = omega (arith, counts n m [] (omega arith) tt)
 counts (suc n) m (x ∷ l) h t =
     rw (is-true (isAct x) (left (isAct x) _ t)) (omega (arith, counts n m l (omega arith) (right (isAct x) _ t)))
 
-firsts : (n m : ℕ) (l : List Action) (k : ℕ) → length l ≤ n → T (allAct l) → k < length l
+firsts : (n m : ℕ) (l : List Action) (k : ℕ) → length l ≤ n → T (passes isAct l) → k < length l
     → isAct (getD (map item (held n m l)) k (item Nothing) .action) ≡ true
 firsts n m [] k h t i = absurd (omega arith)
 firsts zero m (x ∷ l) k h t i = absurd (omega arith)
@@ -83,7 +78,7 @@ abbrev Yields : Outcome → Type 0
 Yields o = Yield (o .reply)
 
 -- a reply with these actions, by its transfer's kind
-with-actions : (l : List Action) → length l ≤ 6 → T (allAct l) → (x : Answer) (t : Transfer) → t .kind ≤ 4
+with-actions : (l : List Action) → length l ≤ 6 → T (passes isAct l) → (x : Answer) (t : Transfer) → t .kind ≤ 4
     → Yield (record { answer = x; transfer = t; actions = actions l })
 with-actions l h a x t k =
     record { transfer = k; places = in-places 6 l; most = h; counted = counts 6 6 l h a; first = λ i j. firsts 6 6 l i h a j }
@@ -116,33 +111,19 @@ write-small (Held c l) d = either Small _ _ _ (omega arith) (omega arith)
 
 -- ---- the rows of all states
 
-abbrev shownSix : List Shown → Bool
-shownSix [] = true
-shownSix (plain x ∷ more) = isAct x && shownSix more
-shownSix (powerChanged ∷ more) = shownSix more
-shownSix (configDone ∷ more) = shownSix more
-shownSix (sentBack ∷ more) = shownSix more
-shownSix (droppedBack ∷ more) = shownSix more
-shownSix (receivedBack ∷ more) = shownSix more
-
--- a row names at most six actions, and not `Nothing`
+-- a row names at most six actions, and `Nothing` is not one of them
 abbrev rowSix : Row → Bool
-rowSix (does l x n s) = leb (length s) 6 && shownSix s
+rowSix (does l x n s) = leb (length s) 6 && plainly isAct s
 
 rows-six : T (all-below (λ n. leaves unknown rowSix (treeAt n)) 69)
 unfolding treeAt trees
 rows-six = tt
 
-shown-act : (a : Arrived) (d : Driver) (s : List Shown) → T (shownSix s) → T (allAct (shown a d s))
-shown-act a d [] t = tt
-shown-act a d (plain x ∷ s) t = pair (isAct x) _ (left (isAct x) _ t) (shown-act a d s (right (isAct x) _ t))
-shown-act a d (powerChanged ∷ s) t = either (λ l. T (allAct l)) _ _ _ (shown-act a d s t) (shown-act a d s t)
-shown-act a d (configDone ∷ s) t = either (λ l. T (allAct l)) _ _ _ (shown-act a d s t) (shown-act a d s t)
-shown-act a d (sentBack ∷ s) t = shown-act a d s t
-shown-act a d (droppedBack ∷ s) t = shown-act a d s t
-shown-act a d (receivedBack ∷ s) t = shown-act a d s t
+-- a notice is not `Nothing`
+notices-act : (a : Arrived) (d : Driver) → Notices isAct a d
+notices-act a d = record { power = tt; config = tt; sent = tt; dropped = tt; received = tt }
 
-access-yields : (x : Access) (a : Arrived) (l : List Action) (d : Driver) → length l ≤ 6 → T (allAct l) → Yields (accessed x a (actions l) d)
+access-yields : (x : Access) (a : Arrived) (l : List Action) (d : Driver) → length l ≤ 6 → T (passes isAct l) → Yields (accessed x a (actions l) d)
 access-yields none a l d h t = with-actions l h t _ _ (omega arith)
 access-yields (reads r) a l d h t = with-actions l h t _ _ (register-small 1 _ _ d (omega arith))
 access-yields (writes r v) a l d h t = with-actions l h t _ _ (register-small 2 _ _ d (omega arith))
@@ -155,7 +136,7 @@ unfolding perform
 row-yields (does l x n s) a d t =
     let e = entering n (assigning (a .result) l d) in
     let most = leb-true (length s) 6 (is-true (leb (length s) 6) (left (leb (length s) 6) _ t)) in
-    access-yields x a (shown a e s) _ (omega (arith, fewer a e s)) (shown-act a e s (right (leb (length s) 6) _ t))
+    access-yields x a (shown a e s) _ (omega (arith, fewer a e s)) (all-pass isAct a e (notices-act a e) s (right (leb (length s) 6) _ t))
 
 case-yields : (a : Arrived) (d : Driver) → Yields (ownCase a d)
 unfolding caseOf
