@@ -1,5 +1,6 @@
--- One walk through the definitions of the calls: what holds of refusals, of register transfers and quiet steps without an action, of a reset
--- and of completions (`OfCalls`) holds of every call (`every-call`), whatever the driver value, the arguments and the pool. Assumes nothing.
+-- One walk through the definitions of the calls: what holds of refusals, of register transfers and quiet steps without an action, of a
+-- reset and of completions (`OfCalls`) holds of every call (`every-call`), whatever the driver value, the arguments and the pool.
+-- Assumes nothing.
 use Prim.Native.Nat.{ℕ, _+_}
 use mathlib.Core.Path.{_≡_, refl}
 use mathlib.Core.Bool.{false}

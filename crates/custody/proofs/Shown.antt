@@ -1,5 +1,6 @@
--- The actions of a row: those that it names outright, and the notices that it makes of the driver and of what arrived. Where the former pass
--- a test, which is asked of the row alone, and so does each of the notices, every action of the row does (`all-pass`). Assumes nothing.
+-- The actions of a row: those that it names outright, and the notices that it makes of the driver and of what arrived. Where the former
+-- pass a test, which is asked of the row alone, and so does each of the notices, every action of the row does (`all-pass`).
+-- Assumes nothing.
 use mathlib.Core.Bool.{Bool, true, _&&_}
 use mathlib.Core.List.{List, [], _∷_}
 use lib.Dec.{T}

@@ -123,7 +123,8 @@ rows-six = tt
 notices-act : (a : Arrived) (d : Driver) → Notices isAct a d
 notices-act a d = record { power = tt; config = tt; sent = tt; dropped = tt; received = tt }
 
-access-yields : (x : Access) (a : Arrived) (l : List Action) (d : Driver) → length l ≤ 6 → T (passes isAct l) → Yields (accessed x a (actions l) d)
+access-yields : (x : Access) (a : Arrived) (l : List Action) (d : Driver) → length l ≤ 6 → T (passes isAct l)
+    → Yields (accessed x a (actions l) d)
 access-yields none a l d h t = with-actions l h t _ _ (omega arith)
 access-yields (reads r) a l d h t = with-actions l h t _ _ (register-small 1 _ _ d (omega arith))
 access-yields (writes r v) a l d h t = with-actions l h t _ _ (register-small 2 _ _ d (omega arith))
@@ -165,7 +166,9 @@ completion-yields a d =
       fires = λ e g. firing-yields e;
       sends = λ e g s. asks 1 _ _ _ (omega arith);
       waits = λ e g. asks 1 _ _ _ (omega arith);
-      commits = λ b e g. falls-yields (commits-first e) (ownCase b (commits-first e .driver)) (asks 2 _ _ _ (omega arith)) (case-yields b (commits-first e .driver));
+      commits = λ b e g.
+          falls-yields (commits-first e) (ownCase b (commits-first e .driver)) (asks 2 _ _ _ (omega arith))
+          (case-yields b (commits-first e .driver));
       case = λ b e g. case-yields b e;
     }) a d tt
 

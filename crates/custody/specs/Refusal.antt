@@ -1,5 +1,6 @@
--- Demand 1: any call gets an answer, and one that is turned down starts no transfer, has no action, and alters neither driver nor pool, save
--- that `start`'s ALREADY (6) withdraws a waiting stop. It is said of the calls of demand 3 (Claim.antt), so that a new call joins both.
+-- Demand 1: any call gets an answer, and one that is turned down starts no transfer, has no action, and alters neither driver nor pool,
+-- save that `start`'s ALREADY (6) withdraws a waiting stop. It is said of the calls of demand 3 (Claim.antt), so that a new call joins
+-- both. And refusal 8's purpose: a buffer that the driver has is not lent again.
 use Prim.Native.Nat.{ℕ}
 use mathlib.Core.Path.{_≡_}
 use mathlib.Core.Bool.{Bool, true, false, cond}
@@ -78,7 +79,7 @@ abbrev pub RefusedNew : Type 0
 RefusedNew = (l c : ℕ) → (answerNo (newCall l c .reply .answer) ≡ 0 → ⊥) → newCall l c ≡ refused 15 (newDriver 129 26)
 
 -- a buffer that the driver has is not lent again, whatever the driver value, the lengths and the pool: the answer is one of the call's
--- refusals, the last of which is 8
+-- refusals, in document 01's order, of which 8 is the last
 abbrev pub HeldIsRefused : Type 0
 HeldIsRefused =
     (d : Driver) (b l : ℕ) (p : List ℕ) → recordHas (d .buffers) b ≡ true
