@@ -1,10 +1,8 @@
--- A table of writes as cases: what the table has for a state is what the state's tree writes, from one check of the table against the
--- trees. Assumes nothing.
-use mathlib.Core.Path.{_≡_, refl, subst}
+-- A table's rule, from one test of the whole table: what a list of a function's values has at each place, and, of a table of writes as
+-- cases, that what it has for a state is what the state's tree writes. Assumes nothing.
+use mathlib.Core.Path.{_≡_, refl, subst, sym, ap, _∙_}
 use mathlib.Core.List.{List, [], _∷_, map}
-use mathlib.Core.Logic.{⊎-elim}
 use Prim.Native.Nat.{ℕ, zero, suc, _+_, _-_, _≤_, _<_}
-use native.Mathlib.Nat.{eq-or-lt-of-le}
 use native.Mathlib.Omega.{arith}
 use lib.ListN.{length, getD}
 use Rattle.rf233.specs.Case.{ownCase, caseOf, perform, treeAt}
@@ -22,11 +20,19 @@ same-row [] v w k h = absurd (omega arith)
 same-row (x ∷ ws) v w zero h = refl
 same-row (x ∷ ws) v w (suc k) h = same-row ws v w k (omega arith)
 
--- two functions that agree on the list of the numbers from lo on agree at each n among them
+-- the list of what f gives for the numbers from lo on has at place k what f gives for lo + k
+pub listed : {A : Type 0} (f : ℕ → A) (lo len k : ℕ) (d : A) → k < len → getD (map f (range lo len)) k d ≡ f (lo + k)
+listed f lo zero k d h = absurd (omega arith)
+listed f lo (suc len) zero d h = ap f (omega arith)
+listed f lo (suc len) (suc k) d h = listed f (suc lo) len k d (omega arith) ∙ ap f (omega arith)
+
+-- so two functions that agree on that list agree at each n among the numbers
 pub in-range : {A : Type 0} (f g : ℕ → A) (lo len n : ℕ) → map f (range lo len) ≡ map g (range lo len) → lo ≤ n → n < lo + len → f n ≡ g n
-in-range f g lo zero n h p q = absurd (omega arith)
-in-range f g lo (suc len) n h p q =
-    ⊎-elim (λ e. subst (λ (k : ℕ). f k ≡ g k) e (cc)) (λ l. in-range f g (suc lo) len n (cc) l (omega arith)) (eq-or-lt-of-le p)
+in-range f g lo len n h p q =
+    let k : ℕ = n - lo in
+    let e : lo + k ≡ n = omega arith in
+    let l : k < len = omega arith in
+    subst (λ (m : ℕ). f m ≡ g m) e (sym (listed f lo len k (f n) l) ∙ ap (λ (xs : List _). getD xs k (f n)) h ∙ listed g lo len k (f n) l)
 
 -- the table, whose row k is `at k`, has the writes of the states from lo on, where state n has row n - off
 pub table-case : (at : ℕ → Write) (off lo len : ℕ) → map treeAt (range lo len) ≡ map (λ n. write (at (n - off))) (range lo len)

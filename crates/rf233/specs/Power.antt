@@ -3,7 +3,7 @@
 use Prim.Native.Nat.{ℕ, zero, suc}
 use mathlib.Core.Bool.{Bool, cond, _&&_}
 use mathlib.Core.List.{List, [], _∷_}
-use lib.IntN.{ℤ, pos, negsuc}
+use lib.IntN.{ℤ, pos, negsuc, _-ℤ_}
 use lib.Signed.{leZ}
 use lib.ListN.{getD}
 
@@ -41,6 +41,10 @@ firstServing (from least n ∷ more) p = cond (leZ least p) n (firstServing more
 -- the setting for a wish
 abbrev pub powerToSetting : ℤ → ℕ
 powerToSetting p = firstServing served p
+
+-- the power that entry k of the table of 256 settings is for (request 2026-03: "indexed by power plus 128")
+abbrev pub powerAt : ℕ → ℤ
+powerAt k = pos k -ℤ pos 128
 
 -- document 01, refusal 5: a wish from -17 to 4 is taken
 abbrev pub powerFits : ℤ → Bool

@@ -42,13 +42,19 @@ fn size(value: i8) -> u64 {
     value as u64
 }
 
-// A space and a number that may be negative.
-pub fn signed_field(out: &mut [u8], at: usize, value: i8) -> usize {
+// A number that may be negative.
+pub fn signed(out: &mut [u8], at: usize, value: i8) -> usize {
     if value < 0 {
-        let minus = text(out, at, b" -");
+        let minus = byte(out, at, b'-');
         return decimal(out, minus, size(value));
     }
-    field(out, at, size(value))
+    decimal(out, at, size(value))
+}
+
+// A space and a number that may be negative.
+pub fn signed_field(out: &mut [u8], at: usize, value: i8) -> usize {
+    let end = byte(out, at, b' ');
+    signed(out, end, value)
 }
 
 // A space and a 1 or a 0.

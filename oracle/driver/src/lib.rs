@@ -24,6 +24,7 @@ pub mod progress;
 mod random;
 pub mod run;
 pub mod session;
+pub mod settings;
 pub mod shrink;
 pub mod trace;
 pub mod view;

@@ -1,4 +1,4 @@
-//! The one module that sees the driver's private fields: the build makes it a child of
+//! The one module that sees what is private to the driver: the build makes it a child of
 //! the copied `rf233.rs`. It reads a driver into plain data and builds one from it.
 
 use std::cell::Cell;
@@ -159,6 +159,11 @@ pub fn clear_client(driver: &Driver, client: Client) {
         Client::Receive => driver.rx_client.clear(),
         Client::Config => driver.cfg_client.clear(),
     }
+}
+
+/// The driver's own function, which it calls for PHY_TX_PWR.
+pub fn power_to_setting(power: i8) -> u8 {
+    super::power_to_setting(power)
 }
 
 fn flags(driver: &Driver) -> Flags {

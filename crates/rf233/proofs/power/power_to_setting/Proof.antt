@@ -1,97 +1,68 @@
--- `power_to_setting` meets its contract. Each setting in use serves what the one before it serves, so the setting at a place is the one for
--- every wish that it serves and the one before it does not (`setting-at`). Each answer then follows from the last test that failed and
--- the one that held. Assumes nothing.
-use Prim.Native.Nat.{ℕ, zero, suc}
+-- `power_to_setting` meets its contract. A power that fits a signed byte is, plus 128, a number below 256 (`place`), and the power of that
+-- entry of the table is the power itself (`power-at`). The casts and the sum lose nothing: each value fits, so it is read back from its
+-- bits. Assumes nothing.
+use Prim.Native.Nat.{ℕ, suc, _+_, _-_, _<_}
 use mathlib.Core.Path.{_≡_, refl, sym, _∙_, ap}
-use mathlib.Core.Bool.{Bool, true, false, true≢false, false≢true}
-use mathlib.Core.List.{List, [], _∷_}
 use native.Mathlib.Omega.{arith}
-use lib.IntN.{ℤ, pos, negsuc}
-use lib.Signed.{leZ}
-use borrow.Author.Tests.{leb-true, le-leb}
-use mir.Syntax.{w8}
+use borrow.Author.Needs.{needs}
+use borrow.Author.Tests.{le-ltb}
+use lib.IntN.{ℤ, pos, negsuc, natAbs, _+ℤ_, _-ℤ_, +ℤ-assoc, +ℤ-idr}
+use mir.Syntax.{w8, w16}
 use mir.Val.{toZ, ofZ, SFits}
-use mir.Facts.{toZ-ofZ}
-use Rattle.rf233.specs.Power.{Serves, from, served, firstServing, powerToSetting}
+use mir.Facts.{sfits-widen, toZ-ofZ}
+use Rattle.rf233.specs.Power.{powerAt, powerToSetting}
 use Rattle.rf233.proofs.power.power_to_setting.Statement.{statement}
 use Rattle.rf233.proofs.power.power_to_setting.Tie as tie
 
--- the setting at place k of a list; past its end, the weakest
-abbrev setting : List Serves → ℕ → ℕ
-setting [] k = 0x0F
-setting (from q n ∷ more) zero = n
-setting (from q n ∷ more) (suc k) = setting more k
+-- the place of a power in the table: the power plus 128
+record Place (p : ℤ) : Type 0 where
+  at : ℕ
+  is : p +ℤ pos 128 ≡ pos at
+  below : at < 256
 
--- that setting serves the wish, as the weakest serves every wish
-abbrev serves : List Serves → ℕ → ℤ → Bool
-serves [] k p = true
-serves (from q n ∷ more) zero p = leZ q p
-serves (from q n ∷ more) (suc k) p = serves more k p
-
--- the setting before place k serves it
-abbrev passed : List Serves → ℕ → ℤ → Bool
-passed xs zero p = false
-passed xs (suc k) p = serves xs k p
-
--- the least wishes served fall along the list, from at most q on
-abbrev Falling : ℤ → List Serves → Type 0
-Falling q [] = Unit
-Falling q (from r n ∷ more) = (leZ r q ≡ true) × Falling r more
-
-le-trans : (a b c : ℤ) → leZ a b ≡ true → leZ b c ≡ true → leZ a c ≡ true
-le-trans (pos a) (pos b) (pos c) h k = le-leb a c (omega (arith, leb-true a b h, leb-true b c k))
-le-trans (pos a) (pos b) (negsuc c) h k = k
-le-trans (pos a) (negsuc b) c h k = absurd (false≢true h)
-le-trans (negsuc a) b (pos c) h k = refl
-le-trans (negsuc a) (pos b) (negsuc c) h k = absurd (false≢true k)
-le-trans (negsuc a) (negsuc b) (negsuc c) h k = le-leb c a (omega (arith, leb-true b a h, leb-true c b k))
-
--- a wish of at least q is served at every place
-served-after : (q : ℤ) (xs : List Serves) (k : ℕ) (p : ℤ) → Falling q xs → leZ q p ≡ true → serves xs k p ≡ true
-served-after q [] k p f h = refl
-served-after q (from r n ∷ more) zero p f h = le-trans r q p (f .0) h
-served-after q (from r n ∷ more) (suc k) p f h = served-after r more k p (f .1) (le-trans r q p (f .0) h)
-
--- so a wish that is not served at some place is less
-less-than : (q : ℤ) (xs : List Serves) (k : ℕ) (p : ℤ) → Falling q xs → serves xs k p ≡ false → leZ q p ≡ false
-less-than q xs k p f h = unless (leZ q p) refl
+place : {p : ℤ} → SFits w8 p → Place p
+place {p} f = from p f
   where
-    unless : (b : Bool) → leZ q p ≡ b → leZ q p ≡ false
-    unless true e = absurd (true≢false (sym (served-after q xs k p f e) ∙ h))
-    unless false e = e
+    from : (p : ℤ) → SFits w8 p → Place p
+    from (pos n) f = record { at = n + 128; is = refl; below = omega (arith, f .sfits) }
+    from (negsuc n) f = record { at = 128 - suc n; is = rw (le-ltb 128 (suc n) (omega (arith, f .sfits))); below = omega arith }
 
-at-place : (q : ℤ) (xs : List Serves) (k : ℕ) (p : ℤ) → Falling q xs → passed xs k p ≡ false → serves xs k p ≡ true
-    → setting xs k ≡ firstServing xs p
-at-place q [] k p f h s = refl
-at-place q (from r n ∷ more) zero p f h s = rw s
-at-place q (from r n ∷ more) (suc zero) p f h s = rw h (at-place r more zero p (f .1) refl s)
-at-place q (from r n ∷ more) (suc (suc k)) p f h s = rw (less-than r more k p (f .1) h) (at-place r more (suc k) p (f .1) h s)
+-- the power of the entry there is the power itself
+power-at : {p : ℤ} (s : Place p) → powerAt (s .at) ≡ p
+power-at {p} s = ap (λ z. z -ℤ pos 128) (sym (s .is)) ∙ +ℤ-assoc p (pos 128) (negsuc 127) ∙ +ℤ-idr p
 
--- The same of the settings in use, where the tests have read the wish back from its bits.
-setting-at : (k : ℕ) {p : ℤ} → SFits w8 p → passed served k (toZ w8 (ofZ w8 p)) ≡ false → serves served k (toZ w8 (ofZ w8 p)) ≡ true
-    → setting served k ≡ powerToSetting p
-setting-at k fits h s = at-place (pos 4) served k _ (search) h s ∙ ap powerToSetting (toZ-ofZ fits)
+-- sixteen bits hold what eight do
+widened : {p : ℤ} → SFits w8 p → SFits w16 (toZ w8 (ofZ w8 p))
+widened f = rw (toZ-ofZ f) (sfits-widen tt f)
+
+-- the sum as the code makes it
+abbrev sumOf : ℤ → ℤ
+sumOf p = toZ w16 (ofZ w16 (toZ w8 (ofZ w8 p))) +ℤ pos 128
+
+-- it is the power's place, it fits, and so it is read back from its bits
+sum : {p : ℤ} (f : SFits w8 p) → sumOf p ≡ pos (place f .at)
+sum f = rw (toZ-ofZ (widened f), toZ-ofZ f) (place f .is)
+
+sum-fits : {p : ℤ} → SFits w8 p → SFits w16 (sumOf p)
+sum-fits f = rw (sum f) (record { sfits = omega (arith, place f .below) })
+
+read-back : {p : ℤ} (f : SFits w8 p) → toZ w16 (ofZ w16 (sumOf p)) ≡ pos (place f .at)
+read-back f = toZ-ofZ (sum-fits f) ∙ sum f
+
+cast-setting-at-2 : tie.Need-cast-setting-at-2
+cast-setting-at-2 c = rw (read-back (c .fits .power)) (tt, record { fits = place (c .fits .power) .below })
+
+returns : tie.Need-returns
+returns c =
+    let f = c .before .fits .power in
+    c .setting-at .ensures ∙ ap (λ z. powerToSetting (powerAt (natAbs z))) (read-back f) ∙ ap powerToSetting (power-at (place f))
 
 pub power-to-setting-spec : {M : Type 1} → statement M
 power-to-setting-spec =
     tie.close
     (tie.spec
-    (λ c. setting-at 0 (c .before .fits .power) refl (c .if1 .taken))
-    (λ c. setting-at 1 (c .before .before .fits .power) (c .before .if1 .left) (c .if2 .taken))
-    (λ c. setting-at 2 (c .before .before .before .fits .power) (c .before .if2 .left) (c .if3 .taken))
-    (λ c. setting-at 3 (c .before .before .before .before .fits .power) (c .before .if3 .left) (c .if4 .taken))
-    (λ c. setting-at 4 (c .before .before .before .before .before .fits .power) (c .before .if4 .left) (c .if5 .taken))
-    (λ c. setting-at 5 (c .before .before .before .before .before .before .fits .power) (c .before .if5 .left) (c .if6 .taken))
-    (λ c. setting-at 6 (c .before .before .before .before .before .before .before .fits .power) (c .before .if6 .left) (c .if7 .taken))
-    (λ c. setting-at 7 (c .before .before .before .before .before .before .before .before .fits .power) (c .before .if7 .left)
-    (c .if8 .taken))
-    (λ c. setting-at 8 (c .before .before .before .before .before .before .before .before .before .fits .power) (c .before .if8 .left)
-    (c .if9 .taken))
-    (λ c. setting-at 9 (c .before .before .before .before .before .before .before .before .before .before .fits .power)
-    (c .before .if9 .left) (c .if10 .taken))
-    (λ c. setting-at 10 (c .before .before .before .before .before .before .before .before .before .before .before .fits .power)
-    (c .before .if10 .left) (c .if11 .taken))
-    (λ c. setting-at 11 (c .before .before .before .before .before .before .before .before .before .before .before .before .fits .power)
-    (c .before .if11 .left) (c .if12 .taken))
-    (λ c. setting-at 12 (c .before .before .before .before .before .before .before .before .before .before .before .before .fits .power)
-    (c .if12 .left) refl))
+    (λ c. widened (c .fits .power))
+    (λ c. sum-fits (c .fits .power))
+    cast-setting-at-2
+    (λ c κs. search needs)
+    returns)
