@@ -105,7 +105,7 @@ fn token(out: &mut [u8], at: usize, yielded: Outcome) -> usize {
 }
 
 // A driver, and how much is written of what its steps yield.
-#[derive(Drop)]
+#[derive(Clone, Copy)]
 struct Run {
     driver: Driver,
     at: usize,

@@ -1,4 +1,6 @@
 // `corners`: document 01's corners that have no star, and its constants, each run on the driver and held to the Rust's answers.
+#![tactic(auto)]
+
 mod corner;
 mod table;
 

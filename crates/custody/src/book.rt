@@ -33,7 +33,7 @@ use rf233::transfer::Transfer;
 
 // The 19 buffers' places (0 with the client, 1 its own, 2 transmit, 3 receive, 4 the transfer under way); the transfer under way by its
 // kind (0 none) and its two buffers; the counts; whether a fault was found.
-#[derive(Drop)]
+#[derive(Clone, Copy)]
 pub struct Book {
     pub places: [u8; 19],
     pub kind: u8,
@@ -46,7 +46,7 @@ pub struct Book {
 }
 
 // A call, as far as the book looks at its arguments.
-#[derive(Drop)]
+#[derive(Clone, Copy)]
 pub enum Fed {
     LendsTransmit(u8),
     LendsReceive(u8),

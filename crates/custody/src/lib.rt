@@ -1,2 +1,4 @@
 // The book of custody over the driver's calls, and the claim about whole lists of calls.
+#![tactic(auto)]
+
 pub mod book;

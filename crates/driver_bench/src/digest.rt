@@ -3,7 +3,7 @@ use rf233::action::{Action, Actions, Item};
 use rf233::transfer::Transfer;
 
 // Of the bytes sent, and of the notices, apart: the order of the two within a step is left open.
-#[derive(Drop)]
+#[derive(Clone, Copy)]
 pub struct Digest {
     pub sent: u64,
     pub told: u64,

@@ -1,4 +1,6 @@
 // Whole scenarios on one driver, for C or Rust to call: events as bytes in, a digest of all that was sent and told out.
+#![tactic(auto)]
+
 mod digest;
 mod rounds;
 

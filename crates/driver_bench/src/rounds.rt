@@ -6,7 +6,7 @@ use rf233::driver::Driver;
 use scenario::event::{complete, is_completion, make, width};
 
 // A driver, and the digest of what its steps have yielded so far.
-#[derive(Drop)]
+#[derive(Clone, Copy)]
 struct Run {
     driver: Driver,
     digest: Digest,

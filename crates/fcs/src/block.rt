@@ -5,7 +5,7 @@ ghost use Rattle.fcs.specs.Word.{reduced, four};
 use crate::reduce::fold;
 
 // The four words, `a` the first to leave the register and `d` the last.
-#[derive(Drop)]
+#[derive(Clone, Copy)]
 pub(crate) struct Block {
     pub a: u64,
     pub b: u64,

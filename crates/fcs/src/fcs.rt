@@ -32,7 +32,7 @@ fn rest(start: u16, bytes: &[u8], from: usize) -> u16
 }
 
 // How far the bytes are done: the word that stands for the register, and the place of the next byte.
-#[derive(Drop)]
+#[derive(Clone, Copy)]
 struct Part {
     y: u64,
     at: usize,

@@ -1,4 +1,6 @@
 // The frame check sequence for C: `uint16_t fcs_of(const uint8_t *first, size_t count)`.
+#![tactic(auto)]
+
 ghost use Rattle.std.specs.Prelude.{◌≡◌};
 ghost use Rattle.fcs.specs.Fcs.{fcs_of};
 

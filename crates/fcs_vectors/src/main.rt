@@ -1,4 +1,6 @@
 // Check vectors of the frame check sequence: what `fcs` answers, held against known checks and against a second implementation.
+#![tactic(auto)]
+
 mod bitwise;
 mod known;
 mod lists;

@@ -1,9 +1,11 @@
 // `replay`: a script of calls on standard input, the driver's answers, or with the argument `trace` its trace blocks, on standard output.
+#![tactic(auto)]
+
 use libc::STDERR_FILENO;
 use replay_run::replay;
 
 // What the arguments ask for.
-#[derive(Drop)]
+#[derive(Clone, Copy)]
 enum Asked {
     Text,
     Trace,

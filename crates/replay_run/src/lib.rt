@@ -1,5 +1,7 @@
 // A script run: its lines read from standard input, the calls that they ask for made on one driver, and their answers, or the trace that
 // they leave, written to standard output.
+#![tactic(auto)]
+
 mod area;
 mod ending;
 mod perform;

@@ -7,7 +7,7 @@ use rf233::driver::Driver;
 const POOL_LENGTH: usize = 3040;
 
 // What `mark` keeps beside the area.
-#[derive(Drop)]
+#[derive(Clone, Copy)]
 pub struct Session {
     pub driver: Driver,
     pub book: Book,
@@ -15,7 +15,7 @@ pub struct Session {
 }
 
 // Whether the run writes its trace in place of text; the number of the block that is being filled, and how many records it has.
-#[derive(Drop)]
+#[derive(Clone, Copy)]
 pub struct Trace {
     pub wanted: bool,
     pub number: u32,
@@ -24,7 +24,7 @@ pub struct Trace {
 
 // The session and the one to go back to; how many calls and lines there were; how much of the line is there, and how much of the output;
 // whether the run is over.
-#[derive(Drop)]
+#[derive(Clone, Copy)]
 pub struct Run {
     pub session: Session,
     pub kept: Session,

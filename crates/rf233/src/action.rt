@@ -3,7 +3,7 @@ ghost use Rattle.std.specs.Prelude.{◌≡◌, [], ◌∷◌};
 ghost use Rattle.rf233.specs.Action.{actions, padded};
 
 // One thing that is asked of a pin or told to a listener.
-#[derive(Drop)]
+#[derive(Clone, Copy)]
 pub enum Action {
     // No action: what fills the list past its count.
     Nothing,
@@ -31,13 +31,13 @@ pub enum Action {
 }
 
 // An action as an element of a list.
-#[derive(Drop)]
+#[derive(Clone, Copy)]
 pub struct Item {
     pub action: Action,
 }
 
 // How many actions there are, and six places for them.
-#[derive(Drop)]
+#[derive(Clone, Copy)]
 pub struct Actions {
     pub count: u8,
     pub items: [Item; 6],

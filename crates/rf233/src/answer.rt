@@ -8,7 +8,7 @@ use crate::driver::Driver;
 use crate::transfer::{Transfer, no_transfer};
 
 // Document 01's answers, in the order of their numbers.
-#[derive(Drop)]
+#[derive(Clone, Copy)]
 pub enum Answer {
     Done,
     Off,
@@ -29,7 +29,7 @@ pub enum Answer {
 }
 
 // What a call yields: its answer, the transfer that it started, its actions.
-#[derive(Drop)]
+#[derive(Clone, Copy)]
 pub struct Reply {
     pub answer: Answer,
     pub transfer: Transfer,
@@ -37,7 +37,7 @@ pub struct Reply {
 }
 
 // The driver after a call, and what the call yields.
-#[derive(Drop)]
+#[derive(Clone, Copy)]
 pub struct Outcome {
     pub driver: Driver,
     pub reply: Reply,

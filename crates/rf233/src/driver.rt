@@ -5,7 +5,7 @@ ghost use Rattle.rf233.specs.Driver.{with_buffers, with_flags, with_rx, with_set
 use crate::state::InternalState;
 
 // The Rust's cells of a bool, under its names. Its `spi_busy` is here the record of the transfer under way.
-#[derive(Drop)]
+#[derive(Clone, Copy)]
 pub struct Flags {
     pub radio_on: bool,
     pub transmitting: bool,
@@ -20,7 +20,7 @@ pub struct Flags {
 }
 
 // Which listeners are there.
-#[derive(Drop)]
+#[derive(Clone, Copy)]
 pub struct Clients {
     pub tx_client: bool,
     pub rx_client: bool,
@@ -29,7 +29,7 @@ pub struct Clients {
 }
 
 // What the setters set and a startup or a commit writes to the radio.
-#[derive(Drop)]
+#[derive(Clone, Copy)]
 pub struct Settings {
     pub addr: u16,
     pub addr_long: [u8; 8],
@@ -39,14 +39,14 @@ pub struct Settings {
 }
 
 // A place for a client's buffer: empty, or with that buffer, of that length.
-#[derive(Drop)]
+#[derive(Clone, Copy)]
 pub enum Slot {
     Empty,
     Held(u8, u8),
 }
 
 // The transfer under way. A register transfer has buffers 16 and 17, a frame transfer 18 and a client's, of a length.
-#[derive(Drop)]
+#[derive(Clone, Copy)]
 pub enum Under {
     Idle,
     Register,
@@ -56,7 +56,7 @@ pub enum Under {
 
 // The driver's record of the buffers: whether each own buffer is in its place, the client's buffers in theirs, the transfer under
 // way; the length of spi_buf and the part of it that the last frame read left; the frame length given to `transmit`, plus 2.
-#[derive(Drop)]
+#[derive(Clone, Copy)]
 pub struct Buffers {
     pub spi_tx: bool,
     pub spi_rx: bool,
@@ -70,7 +70,7 @@ pub struct Buffers {
 }
 
 // The driver: its state, its flags, its listeners, its settings, its record of the buffers.
-#[derive(Drop)]
+#[derive(Clone, Copy)]
 pub struct Driver {
     pub state: InternalState,
     pub flags: Flags,

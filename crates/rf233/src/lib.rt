@@ -1,5 +1,7 @@
 // The AT86RF233 driver. The public modules hold what a client calls, the types that it passes and gets, and their numbers. Behind them
 // stand the states' cases, a completion's phases, the transfer starters, refusal 12 and the pool.
+#![tactic(auto)]
+
 pub mod action;
 pub mod answer;
 mod arrived;

@@ -50,7 +50,8 @@ pub fn copy_arrived(pool: &mut [u8], buffer: u8, arrived: &[u8])
 {
     let start = buffer as usize * 160;
     let end = start + 160;
-    bytes::copy(arrived, &mut pool[start..end]);
+    let count = arrived.len();
+    pool[start..end][..count].copy_from_slice(arrived);
 }
 
 // The buffer that the transfer under way reads into.

@@ -21,14 +21,14 @@ use rf233_const::command::{
 use rf233_const::register::RF233Register;
 
 // A starter's answer: it began its transfer, or found one under way. One that lacks a buffer, which 12 describes, answers as if one were.
-#[derive(Drop)]
+#[derive(Clone, Copy)]
 pub enum StarterAnswer {
     Began,
     UnderWay,
 }
 
 // A starter's answer, the driver after it, and the transfer that it began.
-#[derive(Drop)]
+#[derive(Clone, Copy)]
 pub struct Started {
     pub answer: StarterAnswer,
     pub driver: Driver,

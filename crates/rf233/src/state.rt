@@ -3,7 +3,7 @@ ghost use Rattle.std.specs.Prelude.{◌≡◌, eqb};
 ghost use Rattle.rf233.specs.State.{state_no};
 
 // The Rust's states.
-#[derive(Drop)]
+#[derive(Clone, Copy)]
 pub enum InternalState {
     START,
     START_PART_READ,

@@ -6,7 +6,7 @@ use crate::driver::{Buffers, Under};
 
 // A transfer as it goes out: document 01's kind, 1 to 4, or 0 for none; the buffer sent from and the buffer read into; the first byte
 // sent; the second byte of a register transfer, or a frame transfer's n; the lengths of the two buffers.
-#[derive(Drop)]
+#[derive(Clone, Copy)]
 pub struct Transfer {
     pub kind: u8,
     pub write: u8,

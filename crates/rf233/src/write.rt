@@ -11,7 +11,7 @@ use rf233_const::register::RF233Register;
 use rf233_const::trx_state::{RF233TrxCmd, trx_cmd_number};
 
 // A value to write: a constant, a command to the radio, or a marker for what is taken from the driver's settings.
-#[derive(Drop)]
+#[derive(Clone, Copy)]
 pub enum Value {
     Constant(u8),
     Command(RF233TrxCmd),
@@ -25,7 +25,7 @@ pub enum Value {
 }
 
 // A row of a table.
-#[derive(Drop)]
+#[derive(Clone, Copy)]
 pub struct Write {
     pub register: RF233Register,
     pub value: Value,

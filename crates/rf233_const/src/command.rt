@@ -6,7 +6,7 @@ ghost use Rattle.rf233_const.specs.Register.{register_address};
 use crate::register::{RF233Register, register_number};
 
 // The commands issued over SPI: the top bits of an access's first byte.
-#[derive(Drop)]
+#[derive(Clone, Copy)]
 pub enum RF233BusCommand {
     REGISTER_READ,
     REGISTER_WRITE,

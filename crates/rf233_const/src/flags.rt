@@ -70,7 +70,7 @@ pub const TRX_TRAC_SUCCESS_DATA_PENDING: u8 = 1 << 5;
 pub const TRX_TRAC_CHANNEL_ACCESS_FAILURE: u8 = 3 << 5;
 
 // Every flag above, so that one promise speaks of them all.
-#[derive(Drop)]
+#[derive(Clone, Copy)]
 pub struct RegisterFlags {
     pub trx_ctrl_1_dig34_rxtx_indicator: u8,
     pub trx_ctrl_1_spi_cmd_trx_status: u8,

@@ -4,7 +4,7 @@ ghost use Rattle.rf233_const.specs.Bits.{bit_set, field_at};
 ghost use Rattle.rf233_const.specs.Interrupt.{interrupt_bit};
 
 // Interrupt flags. The spelling is the Rust's.
-#[derive(Drop)]
+#[derive(Clone, Copy)]
 pub enum InteruptFlags {
     IRQ_7_BAT_LOW,
     IRQ_6_TRX_UR,

@@ -3,7 +3,7 @@ ghost use Rattle.std.specs.Prelude.{◌≡◌, ◌<◌, ◌^◌};
 ghost use Rattle.rf233_const.specs.Register.{register_address};
 
 // The registers in the order of their addresses; MIN and MAX are the Rust's bounds of the address range.
-#[derive(Drop)]
+#[derive(Clone, Copy)]
 pub enum RF233Register {
     MIN,
     TRX_STATUS,

@@ -83,7 +83,7 @@ pub const SHORT_ADDR_0: u8 = 0x11;
 pub const SHORT_ADDR_1: u8 = 0x22;
 
 // The value of each register that is set to a constant at startup, or has a default.
-#[derive(Drop)]
+#[derive(Clone, Copy)]
 pub struct StartupValues {
     pub trx_ctrl_1: u8,
     pub trx_ctrl_2: u8,
@@ -99,7 +99,7 @@ pub struct StartupValues {
 }
 
 // The default addresses, each byte in the order of its registers.
-#[derive(Drop)]
+#[derive(Clone, Copy)]
 pub struct DefaultAddresses {
     pub pan_id: [u8; 2],
     pub ieee_addr: [u8; 8],

@@ -3,7 +3,7 @@ ghost use Rattle.std.specs.Prelude.{◌≡◌};
 ghost use Rattle.rf233_const.specs.Status.{status_value, chip_status};
 
 // The values of the radio's state.
-#[derive(Drop)]
+#[derive(Clone, Copy)]
 pub enum ExternalState {
     ON,
     BUSY_RX,

@@ -5,7 +5,7 @@ ghost use Rattle.rf233_const.specs.TrxState.{command_value, trac_bits};
 use crate::flags::TRX_TRAC_MASK;
 
 // Some of the values written in TRX_STATE to change the radio's state.
-#[derive(Drop)]
+#[derive(Clone, Copy)]
 pub enum RF233TrxCmd {
     TX_START,
     RX_ON,

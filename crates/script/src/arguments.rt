@@ -24,7 +24,7 @@ const ANY: u64 = 18446744073709551615;
 const MOST_ARRIVED: usize = 160;
 
 // How many bytes a line's last words were, or that they were none.
-#[derive(Drop)]
+#[derive(Clone, Copy)]
 enum Count {
     Bytes(usize),
     Wrong,

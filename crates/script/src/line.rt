@@ -1,7 +1,7 @@
 // One line of a script, read.
 
 // The bytes of `ReadWriteDone`, `SetAddressLong` and `Pool` are in the buffer that the reader was lent, from its start on.
-#[derive(Drop)]
+#[derive(Clone, Copy)]
 pub enum Line {
     // None of the lines of a script.
     Malformed,

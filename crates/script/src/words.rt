@@ -5,14 +5,14 @@ ghost use Rattle.script.specs.Decimal.{no_decimal, decimal_of};
 ghost use Rattle.script.specs.Words.{word_end, no_word, number_at, last_at};
 
 // A number, or none where `good` is false.
-#[derive(Drop)]
+#[derive(Clone, Copy)]
 pub struct Decimal {
     pub good: bool,
     pub value: u64,
 }
 
 // A number read from a line, and the place where its word ends.
-#[derive(Drop)]
+#[derive(Clone, Copy)]
 pub struct Word {
     pub good: bool,
     pub value: u64,

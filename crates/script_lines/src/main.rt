@@ -1,5 +1,7 @@
 // `script_lines`: the lines of a script on standard input, and on standard output how each is read: its name and numbers anew, or
 // `malformed`, or `passed`. Its stored run has each line of the format at the borders of its ranges; `make` writes it from the format.
+#![tactic(auto)]
+
 mod describe;
 mod stream;
 

@@ -6,7 +6,7 @@ use rf233::power::power_to_setting;
 use script::print::{byte_field, line_end, signed};
 
 // A power, and the setting for it.
-#[derive(Drop)]
+#[derive(Clone, Copy)]
 struct Entry {
     power: i8,
     setting: u8,

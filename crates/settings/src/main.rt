@@ -1,4 +1,6 @@
 // `settings`: the setting of PHY_TX_PWR for each of the 256 powers of a signed byte, a line each.
+#![tactic(auto)]
+
 mod list;
 
 use libc::STDERR_FILENO;

@@ -1,4 +1,6 @@
 // `states`: the driver's state machine, from the functions that the driver runs: a table, or with `graph` a graph for graphviz.
+#![tactic(auto)]
+
 mod actions;
 mod columns;
 mod graph;
@@ -12,7 +14,7 @@ mod table;
 use libc::STDERR_FILENO;
 
 // What the arguments ask for.
-#[derive(Drop)]
+#[derive(Clone, Copy)]
 enum Asked {
     Lines,
     Arrows,

@@ -1,11 +1,13 @@
 // `tracelist`: trace blocks on standard input, a line for each of their records on standard output, in numbers or in words.
+#![tactic(auto)]
+
 mod list;
 mod stream;
 
 use libc::STDERR_FILENO;
 
 // What the arguments ask for.
-#[derive(Drop)]
+#[derive(Clone, Copy)]
 enum Asked {
     Numbers,
     Words,
