@@ -1,4 +1,3 @@
-mod FieldWrite
 pub mod Conditions
 pub mod Onward
 pub mod Answers

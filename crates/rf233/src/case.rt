@@ -15,6 +15,7 @@ use crate::step::stay;
 use crate::transmit::transmit_case;
 
 // The case of the driver's state.
+#[tactic(auto, unfolding(crate::specs::Case::case_of, crate::specs::Case::tree_at, crate::specs::Case::trees, crate::specs::Rows::eval, crate::specs::Case::perform))]
 pub fn own_case(d: Driver, a: Arrived) -> Outcome
     ensures { result ≡ own_case a d }
 {

@@ -82,6 +82,7 @@ const COMMIT: [Write; 13] = [
 ];
 
 // CONFIG_SHORT0_SET to CONFIG_POWER_SET: each has a row of its own.
+#[tactic(auto, unfolding(crate::specs::Case::trees, crate::specs::Case::tree_at))]
 pub fn commit_case(d: Driver, a: Arrived) -> Outcome
     requires { (45 ≤ state_no d.state) × (state_no d.state ≤ 57) }
     ensures { result ≡ own_case a d }
@@ -92,6 +93,7 @@ pub fn commit_case(d: Driver, a: Arrived) -> Outcome
 }
 
 // The end of a commit: its listener is told.
+#[tactic(auto, unfolding(crate::specs::Case::case_of, crate::specs::Case::tree_at, crate::specs::Case::trees, crate::specs::Rows::eval, crate::specs::Case::perform, crate::specs::Choice::pick))]
 pub fn config_done(d: Driver, a: Arrived) -> Outcome
     requires { state_no d.state ≡ 58 }
     ensures { result ≡ own_case a d }

@@ -59,6 +59,7 @@ fn buffers_back(b: Buffers) -> Buffers
 }
 
 // The state once a frame transfer is over; while an interrupt is handled, the transfer was a register's.
+#[tactic(auto, unfolding(crate::specs::Completion::frame_done, crate::specs::Choice::pick))]
 fn frame_done(handling: bool, state: InternalState) -> InternalState
     ensures { result ≡ frame_done handling state }
 {
@@ -98,6 +99,7 @@ fn falls_on(first: Outcome, next: Outcome) -> Outcome
 }
 
 // A waiting commit starts in READY; the step falls on into the next state's case, as the Rust's does.
+#[tactic(auto, unfolding(crate::specs::Completion::waiting_commit, crate::specs::Choice::pick))]
 pub fn waiting_commit(d: Driver, a: Arrived) -> Outcome
     ensures { result ≡ waiting_commit a d }
 {
@@ -133,6 +135,7 @@ fn puts_off(state: InternalState) -> bool
 }
 
 // An interrupt that fired during the transfer is handled now, and the step ends there.
+#[tactic(auto, unfolding(crate::specs::Completion::pending_interrupt, crate::specs::Choice::pick))]
 pub fn pending_interrupt(d: Driver, a: Arrived) -> Outcome
     ensures { result ≡ pending_interrupt a d }
 {
@@ -146,6 +149,7 @@ pub fn pending_interrupt(d: Driver, a: Arrived) -> Outcome
 }
 
 // READY means that the radio is on; if it was off, the power listener is to be told.
+#[tactic(auto, unfolding(crate::specs::Choice::pick))]
 fn ready_marked(d: Driver) -> Driver
     ensures { result ≡ pick (in_no 29 d) (now_on d) d }
 {
@@ -161,6 +165,7 @@ fn ready_marked(d: Driver) -> Driver
 }
 
 // READY bookkeeping, and what follows it.
+#[tactic(auto, unfolding(crate::specs::Completion::ready_bookkeeping))]
 pub fn ready_bookkeeping(d: Driver, a: Arrived) -> Outcome
     ensures { result ≡ ready_bookkeeping a d }
 {
@@ -168,6 +173,7 @@ pub fn ready_bookkeeping(d: Driver, a: Arrived) -> Outcome
 }
 
 // The whole frame is in the radio's buffer: it is read out, or what waits is sent, or the driver goes back to waiting.
+#[tactic(auto, unfolding(crate::specs::Completion::frame_end, crate::specs::Choice::pick))]
 fn frame_end(d: Driver, a: Arrived) -> Outcome
     ensures { result ≡ frame_end a d }
 {
@@ -189,6 +195,7 @@ fn frame_end(d: Driver, a: Arrived) -> Outcome
 }
 
 // What the read of IRQ_STATUS showed; on the way to sleep it is passed over.
+#[tactic(auto, unfolding(crate::specs::Completion::interrupt_result, crate::specs::Choice::pick))]
 pub fn interrupt_result(d: Driver, a: Arrived) -> Outcome
     ensures { result ≡ interrupt_result a d }
 {
@@ -206,6 +213,7 @@ pub fn interrupt_result(d: Driver, a: Arrived) -> Outcome
 }
 
 // The step of a completion, once its bytes have been copied.
+#[tactic(auto, unfolding(crate::specs::Completion::completed, crate::specs::Choice::pick))]
 pub fn complete(d: Driver, a: Arrived) -> Outcome
     ensures { result ≡ completed a d }
 {

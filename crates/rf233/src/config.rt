@@ -29,6 +29,7 @@ use rf233_const::register::RF233Register;
 use rf233_const::trx_state::RF233TrxCmd;
 
 // From SLEEP the radio is woken; on a new driver PART_NUM is read. A starter that finds a transfer under way does nothing.
+#[tactic(auto, unfolding(crate::specs::Config::begin_start, crate::specs::Choice::pick))]
 fn begin_start(d: Driver) -> Outcome
     ensures { result ≡ begin_start d }
 {
@@ -48,6 +49,7 @@ fn begin_start(d: Driver) -> Outcome
 }
 
 // Starts the radio, or wakes it.
+#[tactic(auto, unfolding(crate::specs::Config::start_call, crate::specs::Choice::pick))]
 pub fn start(d: Driver, pool: &mut [u8]) -> Outcome
     ensures { (result ≡ (start_call d pool.old).outcome) × (pool.new ≡ (start_call d pool.old).pool) }
 {
@@ -65,6 +67,7 @@ pub fn start(d: Driver, pool: &mut [u8]) -> Outcome
 }
 
 // In READY and ON_PLL_WAITING the radio is turned off; elsewhere the stop waits for READY.
+#[tactic(auto, unfolding(crate::specs::Config::begin_stop, crate::specs::Choice::pick))]
 fn begin_stop(d: Driver) -> Outcome
     ensures { result ≡ begin_stop d }
 {
@@ -87,6 +90,7 @@ fn begin_stop(d: Driver) -> Outcome
 }
 
 // Turns the radio off, at once or once it is READY.
+#[tactic(auto, unfolding(crate::specs::Config::stop_call, crate::specs::Choice::pick))]
 pub fn stop(d: Driver, pool: &mut [u8]) -> Outcome
     ensures { (result ≡ (stop_call d pool.old).outcome) × (pool.new ≡ (stop_call d pool.old).pool) }
 {
@@ -101,6 +105,7 @@ pub fn stop(d: Driver, pool: &mut [u8]) -> Outcome
 }
 
 // A commit starts in READY; elsewhere it waits. One that is pending already is left alone.
+#[tactic(auto, unfolding(crate::specs::Config::begin_commit, crate::specs::Choice::pick))]
 fn begin_commit(d: Driver) -> Outcome
     ensures { result ≡ begin_commit d }
 {
@@ -125,6 +130,7 @@ fn begin_commit(d: Driver) -> Outcome
 }
 
 // Writes the settings to the radio, at once or once it is READY.
+#[tactic(auto, unfolding(crate::specs::Config::commit_call, crate::specs::Choice::pick))]
 pub fn config_commit(d: Driver, pool: &mut [u8]) -> Outcome
     ensures { (result ≡ (commit_call d pool.old).outcome) × (pool.new ≡ (commit_call d pool.old).pool) }
 {
@@ -135,6 +141,7 @@ pub fn config_commit(d: Driver, pool: &mut [u8]) -> Outcome
 }
 
 // Resets the radio by its pins. The kernel has configured the SPI just before, and says whether that went well.
+#[tactic(auto, unfolding(crate::specs::Config::reset_call, crate::specs::Choice::pick))]
 pub fn reset(d: Driver, configured: bool) -> Outcome
     ensures { result ≡ reset_call d configured }
 {
@@ -208,6 +215,7 @@ pub fn set_pan(d: Driver, id: u16) -> Driver
 }
 
 // The transmit power in dBm, from -17 to 4.
+#[tactic(auto, unfolding(crate::specs::Config::set_power, crate::specs::Choice::pick))]
 pub fn set_tx_power(d: Driver, power: i8) -> Outcome
     ensures { result ≡ set_power d power }
 {
@@ -227,6 +235,7 @@ pub(crate) fn channel_fits(channel: u8) -> bool
 }
 
 // The channel, from 11 to 26.
+#[tactic(auto, unfolding(crate::specs::Config::set_channel, crate::specs::Choice::pick))]
 pub fn set_channel(d: Driver, channel: u8) -> Outcome
     ensures { result ≡ set_channel d channel }
 {

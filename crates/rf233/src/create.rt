@@ -56,6 +56,7 @@ fn new_driver(length: u16, channel: u8) -> Driver
 }
 
 // A driver that was never started. A length or a channel that is refused yields that of 129 and channel 26.
+#[tactic(auto, unfolding(crate::specs::Create::new_call, crate::specs::Choice::pick))]
 pub fn new(length: usize, channel: u8) -> Outcome
     ensures { result ≡ new_call length channel }
 {

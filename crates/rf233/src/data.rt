@@ -55,6 +55,7 @@ fn size_bad(length: usize, frame_len: usize) -> bool
 }
 
 // The buffer is held and the driver is transmitting; in READY, while nothing is being received, the send begins at once.
+#[tactic(auto, unfolding(crate::specs::Data::begin_transmit, crate::specs::Choice::pick))]
 fn begin_transmit(d: Driver, buffer: u8, length: u8, frame_len: u8) -> Outcome
     requires { frame_len ≤ 125 }
     ensures { result ≡ begin_transmit d buffer length frame_len }
@@ -77,6 +78,7 @@ fn begin_transmit(d: Driver, buffer: u8, length: u8, frame_len: u8) -> Outcome
 }
 
 // A frame of `frame_len` bytes in a buffer of `length` is to be sent.
+#[tactic(auto, unfolding(crate::specs::Data::transmit_call, crate::specs::Choice::pick))]
 pub fn transmit(
     d: Driver,
     buffer: usize,
@@ -116,6 +118,7 @@ pub fn transmit(
 }
 
 // A buffer of `length` to receive into.
+#[tactic(auto, unfolding(crate::specs::Data::receive_buffer_call, crate::specs::Choice::pick))]
 pub fn set_receive_buffer(d: Driver, buffer: usize, length: usize) -> Outcome
     ensures { result ≡ receive_buffer_call d buffer length }
 {

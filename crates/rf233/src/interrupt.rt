@@ -17,6 +17,7 @@ use rf233_const::trx_state::RF233TrxCmd;
 
 // The firing itself: IRQ_STATUS is read, unless none may begin now. In RX reception is turned off first, so that the frame is not
 // overwritten before it is read out.
+#[tactic(auto, unfolding(crate::specs::Interrupt::handle_interrupt, crate::specs::Choice::pick))]
 pub fn handle_interrupt(d: Driver) -> Outcome
     ensures { result ≡ handle_interrupt d }
 {
@@ -36,6 +37,7 @@ pub fn handle_interrupt(d: Driver) -> Outcome
 }
 
 // The first state where IRQ_STATUS has the flag, else the second.
+#[tactic(auto, unfolding(crate::specs::Choice::pick))]
 fn state_if(
     res: u8,
     flag: InteruptFlags,
@@ -52,6 +54,7 @@ fn state_if(
 }
 
 // The state that the interrupt leads to.
+#[tactic(auto, unfolding(crate::specs::Interrupt::interrupt_state, crate::specs::Choice::pick))]
 pub fn interrupt_state(state: InternalState, a: Arrived) -> InternalState
     ensures { result ≡ interrupt_state a state }
 {

@@ -13,6 +13,7 @@ use crate::transfer::to_complete;
 use rf233_const::status::status_of;
 
 // The transfer under way is over, and these bytes arrived.
+#[tactic(auto, unfolding(crate::specs::Kernel::completion_call, crate::specs::Choice::pick, crate::specs::Kernel::completing))]
 pub fn read_write_done(d: Driver, arrived: &[u8], pool: &mut [u8]) -> Outcome
     ensures { (result ≡ (completion_call d arrived.now pool.old).outcome)
         × (pool.new ≡ (completion_call d arrived.now pool.old).pool) }
@@ -40,6 +41,7 @@ pub fn read_write_done(d: Driver, arrived: &[u8], pool: &mut [u8]) -> Outcome
 }
 
 // The firing by value.
+#[tactic(auto, unfolding(crate::specs::Kernel::fired_call, crate::specs::Choice::pick))]
 pub fn fire(d: Driver, pool: &mut [u8]) -> Outcome
     ensures { (result ≡ (fired_call d pool.old).outcome) × (pool.new ≡ (fired_call d pool.old).pool) }
 {

@@ -6,6 +6,7 @@ use crate::driver::Buffers;
 use crate::record::{own_has, slot_has, under_has};
 
 // 0 with the client, 1 its own place, 2 the transmit place, 3 the receive place, 4 the transfer under way.
+#[tactic(auto, unfolding(crate::specs::Place::place_of))]
 pub fn place_in_record(b: Buffers, buffer: u8) -> u8
     ensures { result ≡ place_of b buffer }
 {

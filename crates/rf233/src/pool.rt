@@ -30,6 +30,7 @@ pub fn put_length(pool: &mut [u8], buffer: u8, byte: u8)
 }
 
 // Writes the command bytes of a transfer.
+#[tactic(auto, unfolding(crate::specs::Pool::command_written, crate::specs::Choice::pick))]
 pub fn write_command(pool: &mut [u8], t: Transfer)
     ensures { pool.new ≡ command_written t pool.old }
 {

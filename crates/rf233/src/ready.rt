@@ -16,6 +16,7 @@ use rf233_const::register::RF233Register;
 use rf233_const::trx_state::{RF233TrxCmd, trx_cmd_number};
 
 // The case of READY.
+#[tactic(auto, unfolding(crate::specs::Case::case_of, crate::specs::Case::tree_at, crate::specs::Case::trees, crate::specs::Rows::eval, crate::specs::Case::perform, crate::specs::Choice::pick))]
 pub fn ready_case(d: Driver, a: Arrived) -> Outcome
     requires { state_no d.state ≡ 29 }
     ensures { result ≡ own_case a d }
@@ -40,6 +41,7 @@ pub fn ready_case(d: Driver, a: Arrived) -> Outcome
 }
 
 // The power listener, where there is one, is told whether the radio is on.
+#[tactic(auto, unfolding(crate::specs::Choice::pick))]
 fn power_changed(d: Driver) -> Outcome
     ensures { result ≡ quiet d (actions (power_told d)) }
 {

@@ -61,6 +61,7 @@ fn one_if(test: bool) -> u8
 }
 
 // At how many places the record has the buffer.
+#[tactic(auto, unfolding(crate::specs::Record::count_of))]
 pub fn count_of(b: Buffers, buffer: u8) -> u8
     ensures { result ≡ count_of b buffer }
 {

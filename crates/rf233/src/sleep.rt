@@ -27,6 +27,7 @@ pub fn sleep_case(d: Driver, a: Arrived) -> Outcome
 }
 
 // The sleep pin puts the radio to sleep, unless a start waits: then it is woken at once.
+#[tactic(auto, unfolding(crate::specs::Case::case_of, crate::specs::Case::tree_at, crate::specs::Case::trees, crate::specs::Rows::eval, crate::specs::Case::perform, crate::specs::Choice::pick))]
 fn sleep_trx_off(d: Driver, a: Arrived) -> Outcome
     requires { state_no d.state ≡ 30 }
     ensures { result ≡ own_case a d }
@@ -57,6 +58,7 @@ fn sleep_trx_off(d: Driver, a: Arrived) -> Outcome
 }
 
 // The radio is out of sleep, and goes straight on to receive.
+#[tactic(auto, unfolding(crate::specs::Case::case_of, crate::specs::Case::tree_at, crate::specs::Case::trees, crate::specs::Rows::eval, crate::specs::Case::perform))]
 fn sleep_wake(d: Driver, a: Arrived) -> Outcome
     requires { state_no d.state ≡ 32 }
     ensures { result ≡ own_case a d }

@@ -71,6 +71,7 @@ pub fn begun_transfer(answer: StarterAnswer, transfer: Transfer) -> Transfer
 }
 
 // A register transfer with these two bytes.
+#[tactic(auto, unfolding(crate::specs::Starter::register_transfer, crate::specs::Choice::pick))]
 fn register_transfer(d: Driver, kind: u8, first: u8, second: u8) -> Started
     ensures { result ≡ register_transfer kind first second d }
 {
@@ -101,6 +102,7 @@ pub fn register_write(d: Driver, reg: RF233Register, val: u8) -> Started
 }
 
 // A frame read of n bytes into the receive buffer. A step that asks for one finds it held (`unwrap_holds` in proofs/FullPlace.antt).
+#[tactic(auto, unfolding(crate::specs::Starter::frame_read_into))]
 pub fn frame_read(d: Driver, n: u8) -> Started
     ensures { result ≡ frame_read n d }
 {
@@ -113,6 +115,7 @@ pub fn frame_read(d: Driver, n: u8) -> Started
 }
 
 // A frame read of n bytes into this buffer, unless none may begin now or buffer 18 is missing.
+#[tactic(auto, unfolding(crate::specs::Starter::frame_read_into, crate::specs::Choice::pick))]
 fn frame_read_into(d: Driver, buffer: u8, length: u8, n: u8) -> Started
     ensures { result ≡ frame_read_into (Slot.Held buffer length) n d }
 {
@@ -139,6 +142,7 @@ fn frame_read_into(d: Driver, buffer: u8, length: u8, n: u8) -> Started
 }
 
 // A frame write of the transmit buffer, whose n `transmit` left in the driver. A step that asks for one finds it held, likewise.
+#[tactic(auto, unfolding(crate::specs::Starter::frame_write_from))]
 pub fn frame_write(d: Driver) -> Started
     ensures { result ≡ frame_write d }
 {
@@ -151,6 +155,7 @@ pub fn frame_write(d: Driver) -> Started
 }
 
 // A frame write from this buffer, unless none may begin now or buffer 18 is missing.
+#[tactic(auto, unfolding(crate::specs::Starter::frame_write_from, crate::specs::Choice::pick))]
 fn frame_write_from(d: Driver, buffer: u8, length: u8) -> Started
     ensures { result ≡ frame_write_from (Slot.Held buffer length) d }
 {

@@ -159,6 +159,7 @@ fn startup_write(d: Driver, k: usize) -> Outcome
 }
 
 // START_CTRL1_SET to START_CSMA_1_SEEDED: each has a row of its own.
+#[tactic(auto, unfolding(crate::specs::Case::trees, crate::specs::Case::tree_at))]
 pub fn startup_case(d: Driver, a: Arrived) -> Outcome
     requires { (4 ≤ state_no d.state) × (state_no d.state ≤ 24) }
     ensures { result ≡ own_case a d }
@@ -169,6 +170,7 @@ pub fn startup_case(d: Driver, a: Arrived) -> Outcome
 }
 
 // The other states of a startup.
+#[tactic(auto, unfolding(crate::specs::Case::case_of, crate::specs::Case::tree_at, crate::specs::Case::trees, crate::specs::Rows::eval, crate::specs::Case::perform))]
 pub fn start_case(d: Driver, a: Arrived) -> Outcome
     requires { one_of (0 ∷ 1 ∷ 2 ∷ 3 ∷ 25 ∷ 26 ∷ 28 ∷ []) (state_no d.state) ≡ true }
     ensures { result ≡ own_case a d }
@@ -199,6 +201,7 @@ pub fn start_case(d: Driver, a: Arrived) -> Outcome
 }
 
 // A radio that is on is turned off first.
+#[tactic(auto, unfolding(crate::specs::Case::case_of, crate::specs::Case::tree_at, crate::specs::Case::trees, crate::specs::Rows::eval, crate::specs::Case::perform, crate::specs::Choice::pick))]
 fn start_status_read(d: Driver, a: Arrived) -> Outcome
     requires { state_no d.state ≡ 2 }
     ensures { result ≡ own_case a d }
@@ -212,6 +215,7 @@ fn start_status_read(d: Driver, a: Arrived) -> Outcome
 }
 
 // The interrupt pin is made ready before the first write.
+#[tactic(auto, unfolding(crate::specs::Case::case_of, crate::specs::Case::tree_at, crate::specs::Case::trees, crate::specs::Rows::eval, crate::specs::Case::perform))]
 fn start_turning_off(d: Driver, a: Arrived) -> Outcome
     requires { state_no d.state ≡ 3 }
     ensures { result ≡ own_case a d }
