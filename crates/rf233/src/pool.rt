@@ -1,5 +1,5 @@
 // The lent pool of 19 buffers of 160 bytes: command bytes are written into it, arrived bytes are copied into it, one byte is read.
-ghost use Rattle.std.specs.Prelude.{◌≡◌, ◌*◌, ◌+◌, ◌≤◌, get_or, length, set};
+ghost use Rattle.std.specs.Prelude.{◌≡◌, ◌*◌, ◌+◌, ◌++◌, ◌≤◌, drop, get_or, length, set};
 ghost use Rattle.rf233.specs.Pool.{command_written, copied, length_byte, read_buffer, read_length, shorter, write_length};
 
 use crate::driver::{Buffers, Under};
@@ -44,6 +44,15 @@ pub fn write_command(pool: &mut [u8], t: Transfer)
     }
 }
 
+// Copies bytes into the beginning of others.
+fn copy(from: &[u8], to: &mut [u8])
+    requires { length from.now ≤ length to.old }
+    ensures { to.new ≡ from.now ++ drop (length from.now) to.old }
+{
+    let count = from.len();
+    to[..count].copy_from_slice(from);
+}
+
 // Copies the arrived bytes into the beginning of a buffer's part of the pool.
 pub fn copy_arrived(pool: &mut [u8], buffer: u8, arrived: &[u8])
     requires { (length arrived.now ≤ 160) × (buffer * 160 + 160 ≤ length pool.old) }
@@ -51,8 +60,7 @@ pub fn copy_arrived(pool: &mut [u8], buffer: u8, arrived: &[u8])
 {
     let start = buffer as usize * 160;
     let end = start + 160;
-    let count = arrived.len();
-    pool[start..end][..count].copy_from_slice(arrived);
+    copy(arrived, &mut pool[start..end]);
 }
 
 // The buffer that the transfer under way reads into.

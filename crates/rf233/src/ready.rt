@@ -16,7 +16,7 @@ use rf233_const::register::RF233Register;
 use rf233_const::trx_state::{RF233TrxCmd, trx_cmd_number};
 
 // The case of READY.
-#[tactic(auto, unfolding(crate::specs::Case::case_of, crate::specs::Case::tree_at, crate::specs::Case::trees, crate::specs::Rows::eval, crate::specs::Case::perform, crate::specs::Choice::pick))]
+#[tactic(auto, unfolding(crate::specs::Case::case_of, crate::specs::Case::tree_at, crate::specs::Case::trees, crate::specs::Rows::eval, crate::specs::Case::perform, crate::specs::Choice::pick, crate::specs::Rows::holds))]
 pub fn ready_case(d: Driver, a: Arrived) -> Outcome
     requires { state_no d.state ≡ 29 }
     ensures { result ≡ own_case a d }

@@ -67,7 +67,7 @@ fn rx_start_reading(d: Driver, a: Arrived) -> Outcome
 }
 
 // A length from MIN_FRAME_SIZE to MAX_FRAME_SIZE is read out; any other is left.
-#[tactic(auto, unfolding(crate::specs::Case::case_of, crate::specs::Case::tree_at, crate::specs::Case::trees, crate::specs::Rows::eval, crate::specs::Case::perform, crate::specs::Choice::pick))]
+#[tactic(auto, unfolding(crate::specs::Case::case_of, crate::specs::Case::tree_at, crate::specs::Case::trees, crate::specs::Rows::eval, crate::specs::Case::perform, crate::specs::Choice::pick, crate::specs::Rows::holds, crate::specs::Receive::onward_read))]
 fn rx_reading_frame_len_done(d: Driver, a: Arrived) -> Outcome
     requires { state_no d.state ≡ 64 }
     ensures { result ≡ own_case a d }
@@ -99,7 +99,7 @@ fn rx_reading_frame_fcs_done(d: Driver, a: Arrived) -> Outcome
 }
 
 // The frame is handed to the listener; with none its buffer stays held. A waiting stop is withdrawn.
-#[tactic(auto, unfolding(crate::specs::Case::case_of, crate::specs::Case::tree_at, crate::specs::Case::trees, crate::specs::Rows::eval, crate::specs::Case::perform, crate::specs::Choice::pick))]
+#[tactic(auto, unfolding(crate::specs::Case::case_of, crate::specs::Case::tree_at, crate::specs::Case::trees, crate::specs::Rows::eval, crate::specs::Case::perform, crate::specs::Choice::pick, crate::specs::Rows::holds, crate::specs::Receive::onward_read))]
 fn rx_enabling_reception(d: Driver, a: Arrived) -> Outcome
     requires { state_no d.state ≡ 68 }
     ensures { result ≡ own_case a d }
@@ -117,6 +117,7 @@ fn rx_enabling_reception(d: Driver, a: Arrived) -> Outcome
 }
 
 // TRX_STATUS is read, and the next state is the beginning of a send where one waits.
+#[tactic(auto, unfolding(crate::specs::Receive::onward_read, crate::specs::Choice::pick))]
 fn onward_read(d: Driver) -> Outcome
     ensures { result ≡ onward_read d }
 {

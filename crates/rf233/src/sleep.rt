@@ -27,7 +27,7 @@ pub fn sleep_case(d: Driver, a: Arrived) -> Outcome
 }
 
 // The sleep pin puts the radio to sleep, unless a start waits: then it is woken at once.
-#[tactic(auto, unfolding(crate::specs::Case::case_of, crate::specs::Case::tree_at, crate::specs::Case::trees, crate::specs::Rows::eval, crate::specs::Case::perform, crate::specs::Choice::pick))]
+#[tactic(auto, unfolding(crate::specs::Case::case_of, crate::specs::Case::tree_at, crate::specs::Case::trees, crate::specs::Rows::eval, crate::specs::Case::perform, crate::specs::Choice::pick, crate::specs::Rows::holds))]
 fn sleep_trx_off(d: Driver, a: Arrived) -> Outcome
     requires { state_no d.state ≡ 30 }
     ensures { result ≡ own_case a d }

@@ -201,7 +201,7 @@ pub fn start_case(d: Driver, a: Arrived) -> Outcome
 }
 
 // A radio that is on is turned off first.
-#[tactic(auto, unfolding(crate::specs::Case::case_of, crate::specs::Case::tree_at, crate::specs::Case::trees, crate::specs::Rows::eval, crate::specs::Case::perform, crate::specs::Choice::pick))]
+#[tactic(auto, unfolding(crate::specs::Case::case_of, crate::specs::Case::tree_at, crate::specs::Case::trees, crate::specs::Rows::eval, crate::specs::Case::perform, crate::specs::Choice::pick, crate::specs::Rows::holds))]
 fn start_status_read(d: Driver, a: Arrived) -> Outcome
     requires { state_no d.state ≡ 2 }
     ensures { result ≡ own_case a d }

@@ -70,7 +70,7 @@ fn is_busy(status: u8) -> bool
 }
 
 // Before the frame is written: with a busy receiver the driver waits for its interrupt.
-#[tactic(auto, unfolding(crate::specs::Case::case_of, crate::specs::Case::tree_at, crate::specs::Case::trees, crate::specs::Rows::eval, crate::specs::Case::perform, crate::specs::Choice::pick))]
+#[tactic(auto, unfolding(crate::specs::Case::case_of, crate::specs::Case::tree_at, crate::specs::Case::trees, crate::specs::Rows::eval, crate::specs::Case::perform, crate::specs::Choice::pick, crate::specs::Rows::holds))]
 fn tx_status_precheck1(d: Driver, a: Arrived) -> Outcome
     requires { state_no d.state ≡ 33 }
     ensures { result ≡ own_case a d }
@@ -85,7 +85,7 @@ fn tx_status_precheck1(d: Driver, a: Arrived) -> Outcome
 }
 
 // After the frame is written: with a busy receiver the reception comes first.
-#[tactic(auto, unfolding(crate::specs::Case::case_of, crate::specs::Case::tree_at, crate::specs::Case::trees, crate::specs::Rows::eval, crate::specs::Case::perform, crate::specs::Choice::pick))]
+#[tactic(auto, unfolding(crate::specs::Case::case_of, crate::specs::Case::tree_at, crate::specs::Case::trees, crate::specs::Rows::eval, crate::specs::Case::perform, crate::specs::Choice::pick, crate::specs::Rows::holds))]
 fn tx_status_precheck2(d: Driver, a: Arrived) -> Outcome
     requires { state_no d.state ≡ 36 }
     ensures { result ≡ own_case a d }
@@ -99,7 +99,7 @@ fn tx_status_precheck2(d: Driver, a: Arrived) -> Outcome
 }
 
 // The radio is on its way to PLL_ON: asked again while it moves, told again where it went elsewhere.
-#[tactic(auto, unfolding(crate::specs::Case::case_of, crate::specs::Case::tree_at, crate::specs::Case::trees, crate::specs::Rows::eval, crate::specs::Case::perform, crate::specs::Choice::pick))]
+#[tactic(auto, unfolding(crate::specs::Case::case_of, crate::specs::Case::tree_at, crate::specs::Case::trees, crate::specs::Rows::eval, crate::specs::Case::perform, crate::specs::Choice::pick, crate::specs::Rows::holds))]
 fn tx_pll_wait(d: Driver, a: Arrived) -> Outcome
     requires { state_no d.state ≡ 38 }
     ensures { result ≡ own_case a d }
@@ -120,7 +120,7 @@ fn tx_pll_wait(d: Driver, a: Arrived) -> Outcome
 }
 
 // The frame was sent: its buffer goes back, to the listener or, with none, dropped.
-#[tactic(auto, unfolding(crate::specs::Case::case_of, crate::specs::Case::tree_at, crate::specs::Case::trees, crate::specs::Rows::eval, crate::specs::Case::perform, crate::specs::Choice::pick))]
+#[tactic(auto, unfolding(crate::specs::Case::case_of, crate::specs::Case::tree_at, crate::specs::Case::trees, crate::specs::Rows::eval, crate::specs::Case::perform, crate::specs::Choice::pick, crate::specs::Rows::holds))]
 fn tx_return_to_rx(d: Driver, a: Arrived) -> Outcome
     requires { state_no d.state ≡ 43 }
     ensures { result ≡ own_case a d }
