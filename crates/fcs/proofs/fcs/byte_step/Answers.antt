@@ -1,17 +1,14 @@
 -- `fcs::fcs::byte_step` meets its contract: its formula of the register and the byte together, tried at the 16 powers of 2.
 -- Assumes nothing.
-use mathlib.Core.Path.{sym, ◌∙◌}
-use Prim.Native.Nat.{◌^◌, ◌<◌}
-use native.Mathlib.Omega.{arith}
+use Rattle.std.proofs.Common.{sym, ◌∙◌, ◌^◌, ◌<◌, arith}
 use Rattle.fcs.specs.Fcs.{bit_steps}
 use Rattle.fcs.specs.Word.{reduced}
 use Rattle.fcs.proofs.Xor.{◌⊕◌, ⊕_lt}
 use Rattle.fcs.proofs.Turns.{flip, taken, turn, turns}
 use Rattle.fcs.proofs.Form.{Form, it, ◌xor◌, shl, shr, low, agree}
-use Rattle.fcs.proofs.Register.{reduced_turns, byte_step}
+use Rattle.fcs.proofs.Register.{reduced_turns, byte_step_lem}
 use Rattle.fcs.proofs.Shortcut.{Right, shortcut}
-use Rattle.fcs.proofs.fcs.byte_step.Statement.{statement}
-use Rattle.fcs.proofs.fcs.byte_step.Tie as tie
+use Rattle.fcs.proofs.fcs.byte_step.Goals as goal
 
 abbrev l : Form
 l = low 8 it
@@ -26,13 +23,10 @@ right : Right left 0 8 16
 unfolding agree turns turn taken flip ◌⊕◌
 right = tt
 
-returns : tie.Need-returns
+pub returns : goal.returns
 unfolding reduced bit_steps ◌⊕◌
 returns c =
     let r = c.args.r in
     let b = c.args.b in
     let fits : r ⊕ b < 2 ^ 16 = ⊕_lt 16 r b c.ranges.r.fits (omega (arith, c.ranges.b.fits)) in
-    shortcut left 0 8 16 right (r ⊕ b) fits ∙ reduced_turns 8 (r ⊕ b) ∙ sym (byte_step r b c.ranges.b.fits)
-
-pub byte-step-spec : {M : Type 1} → statement M
-byte-step-spec = tie.close (tie.spec returns)
+    shortcut left 0 8 16 right (r ⊕ b) fits ∙ reduced_turns 8 (r ⊕ b) ∙ sym (byte_step_lem r b c.ranges.b.fits)

@@ -6,8 +6,7 @@ use Rattle.fcs.proofs.Xor.{◌⊕◌}
 use Rattle.fcs.proofs.Turns.{flip, taken, turn, turns}
 use Rattle.fcs.proofs.Form.{Form, it, ◌xor◌, shl, shr, ◌then◌, agree}
 use Rattle.fcs.proofs.Shortcut.{Right, shortcut}
-use Rattle.fcs.proofs.reduce.last.Statement.{statement}
-use Rattle.fcs.proofs.reduce.last.Tie as tie
+use Rattle.fcs.proofs.reduce.last.Goals as goal
 
 abbrev a : Form
 a = it xor shl 16 4 it
@@ -22,9 +21,6 @@ right : Right left 0 16 16
 unfolding agree turns turn taken flip ◌⊕◌
 right = tt
 
-returns : tie.Need-returns
+pub returns : goal.returns
 unfolding reduced bit_steps
 returns c = shortcut left 0 16 16 right c.args.l c.ranges.l.fits
-
-pub last-spec : {M : Type 1} → statement M
-last-spec = tie.close (tie.spec returns)

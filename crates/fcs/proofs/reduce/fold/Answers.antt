@@ -4,8 +4,7 @@ use Rattle.fcs.proofs.Xor.{◌⊕◌}
 use Rattle.fcs.proofs.Turns.{flip, taken, turn, turns}
 use Rattle.fcs.proofs.Form.{Form, it, ◌xor◌, shl, shr, ◌then◌, agree}
 use Rattle.fcs.proofs.Shortcut.{Right, shortcut}
-use Rattle.fcs.proofs.reduce.fold.Statement.{statement}
-use Rattle.fcs.proofs.reduce.fold.Tie as tie
+use Rattle.fcs.proofs.reduce.fold.Goals as goal
 
 abbrev a : Form
 a = it xor shl 64 16 it
@@ -20,8 +19,5 @@ right : Right folded 64 128 64
 unfolding agree turns turn taken flip ◌⊕◌
 right = tt
 
-returns : tie.Need-returns
+pub returns : goal.returns
 returns c = shortcut folded 64 128 64 right c.args.y c.ranges.y.fits
-
-pub fold-spec : {M : Type 1} → statement M
-fold-spec = tie.close (tie.spec returns)
