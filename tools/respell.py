@@ -15,7 +15,7 @@ import re
 import sys
 
 CAMEL = re.compile(r"[a-z][a-z0-9]*[A-Z][A-Za-z0-9]*$")
-SIGNATURE = re.compile(r"^\s*(?:(?:pub|abbrev|unfoldable)\s+)*([^\s(){}\[\],;.:«»]+)\s+:\s")
+SIGNATURE = re.compile(r"^\s*(?:(?:pub|abbrev|unfoldable)\s+)*([^\s(){}\[\],;.:«»]+)(?:\s+\{[^}:]*\})?\s+:\s")
 PARTS = re.compile(r"([\s(){}\[\],;.:⌜⌝@\"`«»]+)")
 FUNCTION_FILES = ("Proof.antt", "Answers.antt", "Invariants.antt")
 # a name that Rattle may make: it is not looked for behind a dot in a function's own proof
@@ -42,6 +42,11 @@ FIELDS = {
 }
 
 
+def of_function(path):
+    """Whether a file of proofs/ is in a function's own folder."""
+    return "/proofs/" in path and os.path.basename(path) in FUNCTION_FILES and "/" in path.split("/proofs/")[1]
+
+
 def snake(name):
     name = re.sub(r"(?<=[a-z0-9])([A-Z])", lambda m: "_" + m.group(1).lower(), name) if CAMEL.match(name) else name
     return name.replace("-", "_")
@@ -60,7 +65,7 @@ def declared():
             continue
         with open(path, encoding="utf-8") as f:
             for line in f:
-                if "/proofs/" not in path or os.path.basename(path) not in FUNCTION_FILES:
+                if not of_function(path):
                     m = SIGNATURE.match(line)
                     if m and "-" in m.group(1).strip("-"):
                         names.add(m.group(1))
@@ -73,7 +78,7 @@ def own_words():
     """Every name that a signature of specs/ or of a file of lemmas gives."""
     words = set()
     for path in texts():
-        if path.endswith(".antt") and os.path.basename(path) not in FUNCTION_FILES:
+        if path.endswith(".antt") and not of_function(path):
             with open(path, encoding="utf-8") as f:
                 words.update(m.group(1) for m in map(SIGNATURE.match, f) if m)
     return words
@@ -101,7 +106,7 @@ def turned(line, path, names):
     if path.endswith(".md") or path.endswith(".edit") and line.startswith("#"):
         cut = 0
     code, comment = (line, "") if cut < 0 else (line[:cut], line[cut:])
-    made = os.path.basename(path) in FUNCTION_FILES
+    made = of_function(path)
     out = []
     words = PARTS.split(code)
     strings = 0

@@ -15,13 +15,13 @@ pub either {ℓ κ} : {A : Type ℓ} (P : A → Type κ) (c : Bool) (a b : A) �
 either P c a b p q = branch P c a b (λ t. p) (λ t. q)
 
 -- a function of a choice is the choice of its values
-pub of-choice {ℓ κ} : {A : Type ℓ} {B : Type κ} (f : A → B) (c : Bool) (a b : A) → f (pick c a b) ≡ pick c (f a) (f b)
+pub of_choice {ℓ κ} : {A : Type ℓ} {B : Type κ} (f : A → B) (c : Bool) (a b : A) → f (pick c a b) ≡ pick c (f a) (f b)
 unfolding pick
-of-choice f true a b = refl
-of-choice f false a b = refl
+of_choice f true a b = refl
+of_choice f false a b = refl
 
 -- a choice between the same is that
-pub same-choice {ℓ} : {A : Type ℓ} (c : Bool) (a : A) → pick c a a ≡ a
+pub same_choice {ℓ} : {A : Type ℓ} (c : Bool) (a : A) → pick c a a ≡ a
 unfolding pick
-same-choice true a = refl
-same-choice false a = refl
+same_choice true a = refl
+same_choice false a = refl

@@ -7,14 +7,14 @@ use native.Mathlib.Omega.{arith}
 use lib.ListN.{length, take, drop, length-append, length-take, length-drop, length-set, take-append-drop}
 use lib.Seq.{take-length, drop-append-le, drop-drop}
 use borrow.Rule.Slice.PartMut.{mid_of, put_mid}
-use Rattle.rf233.proofs.ChoiceLaws.{of-choice, same-choice}
+use Rattle.rf233.proofs.ChoiceLaws.{of_choice, same_choice}
 use Rattle.rf233.specs.Pool.{start_of, command_written, copied}
 use Rattle.rf233.specs.declared.transfer.Transfer.{Transfer}
 
 -- a transfer's command bytes
 pub command_written_length : (t : Transfer) (p : List ℕ) → length (command_written t p) ≡ length p
 unfolding command_written
-command_written_length t p = simp (of-choice (length {A = ℕ}), length-set, same-choice)
+command_written_length t p = simp (of_choice (length {A = ℕ}), length-set, same_choice)
 
 -- arrived bytes that fit
 pub copied_length : (b : ℕ) (xs p : List ℕ) → start_of b + length xs ≤ length p → length (copied b xs p) ≡ length p

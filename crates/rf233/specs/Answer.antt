@@ -49,7 +49,7 @@ answers =
     Done ∷ Off ∷ Busy ∷ Size ∷ Long ∷ Inval ∷ Already ∷ Handle
     ∷ Held ∷ Short ∷ Full ∷ Idle ∷ Pool ∷ Arrived ∷ Configure ∷ New ∷ []
 
--- the answer of a number; `answer_no` gives it back (`answer-of-number` and `number-of-answer` in proofs/Answers.antt)
+-- the answer of a number; `answer_no` gives it back (`answer_of_number` and `number_of_answer` in proofs/Answers.antt)
 abbrev pub answer_of : ℕ → Answer
 answer_of n = get_or answers n Done
 

@@ -1,7 +1,7 @@
--- `ready_bookkeeping` meets its contract: what is marked goes on to the pending interrupt either way (`of-choice`). Assumes nothing.
+-- `ready_bookkeeping` meets its contract: what is marked goes on to the pending interrupt either way (`of_choice`). Assumes nothing.
 use Rattle.rf233.specs.Completion.{now_on, pending_interrupt, ready_bookkeeping}
 use Rattle.rf233.specs.Driver.{in_no}
-use Rattle.rf233.proofs.ChoiceLaws.{of-choice}
+use Rattle.rf233.proofs.ChoiceLaws.{of_choice}
 use Rattle.rf233.proofs.completion.ready_bookkeeping.Goals as goal
 
 pub returns : goal.returns
@@ -11,5 +11,5 @@ returns c =
     rw (
       c.pending_interrupt.ensures,
       c.ready_marked.ensures,
-      of-choice (pending_interrupt x.a) (in_no 29 x.d) (now_on x.d) x.d,
+      of_choice (pending_interrupt x.a) (in_no 29 x.d) (now_on x.d) x.d,
     )
