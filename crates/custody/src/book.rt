@@ -55,6 +55,7 @@ pub enum Fed {
 }
 
 // The book before any call: 16 buffers with the client, three that are the driver's own, and nothing counted.
+#[tactic(auto, unfolding(crate::specs::BookCode::wrapped))]
 pub fn new_book() -> Book
     ensures { page_of result ≡ new_page }
 {
@@ -198,6 +199,7 @@ fn end_transfer(book: Book) -> Book
 }
 
 // What the call itself moves.
+#[tactic(auto, using(crate::proofs::BookCounts::twice))]
 fn enter_call(book: Book, call: Fed) -> Book
     ensures { page_of result ≡ wrapped (called (fed_of call) (page_of book)) }
 {
@@ -225,6 +227,7 @@ fn give(book: Book, buffer: u8, place: u8, handed: u64, dropped: u64) -> Book
 }
 
 // What an action moves: `Sent`, `Received` and `Dropped` give their buffer back to the client, the others move nothing.
+#[tactic(auto, using(crate::proofs::BookCounts::twice))]
 fn enter_action(book: Book, action: Action) -> Book
     ensures { page_of result ≡ wrapped (noted action (page_of book)) }
 {
@@ -302,6 +305,7 @@ fn take_buffers(book: Book, kind: u8, write: u8, read: u8) -> Book
 }
 
 // The transfer that the call starts takes its buffers; kind 0 is none, and takes nothing.
+#[tactic(auto, using(crate::proofs::BookCounts::twice))]
 fn enter_transfer(book: Book, transfer: Transfer) -> Book
     ensures { page_of result ≡ wrapped (begun transfer.kind transfer.write transfer.read (page_of book)) }
 {

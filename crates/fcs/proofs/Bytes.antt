@@ -16,7 +16,7 @@ use Rattle.fcs.specs.Word.{bytes_at, reduced, Done}
 use Rattle.fcs.proofs.Xor.{◌⊕◌, ⊕_assoc, ⊕_comm, ⊕_zero, ⊕_shifted}
 use Rattle.fcs.proofs.Turns.{turns, turns_linear, turns_add, turns_shifted}
 use Rattle.fcs.proofs.Four.{standing, folded_in}
-use Rattle.fcs.proofs.Register.{reduced_turns, byte_step, fcs_more}
+use Rattle.fcs.proofs.Register.{reduced_turns, byte_step_lem, fcs_more}
 
 module _ (bs : List ℕ) (byte : (i : ℕ) → get_or bs i 0 < 256) where
   pub bytes_lt : (n at : ℕ) → bytes_at n bs at < 2 ^ (8 * n)
@@ -56,7 +56,7 @@ module _ (bs : List ℕ) (byte : (i : ℕ) → get_or bs i 0 < 256) where
       ap (λ (x : ℕ). turns (8 * n) (r ⊕ low) ⊕ x) (sym (turns_shifted (8 * n) b))
       ∙ sym (turns_linear (8 * n) (r ⊕ low) (b * 2 ^ (8 * n)))
       ∙ ap (turns (8 * n)) (⊕_assoc r low (b * 2 ^ (8 * n)) ∙ ap (λ (x : ℕ). r ⊕ x) put) in
-      byte_step (turns (8 * n) (r ⊕ low)) b (byte (at + n))
+      byte_step_lem (turns (8 * n) (r ⊕ low)) b (byte (at + n))
       ∙ ap (turns 8) in_turn
       ∙ sym (turns_add (8 * n) 8 (r ⊕ (low + b * 2 ^ (8 * n))))
       ∙ ap (λ (k : ℕ). turns k (r ⊕ (low + b * 2 ^ (8 * n)))) (omega arith)

@@ -36,9 +36,9 @@ pub reduced_turns : (n x : ℕ) → reduced n x ≡ turns n x
 unfolding reduced
 reduced_turns n x = bit_steps_lem n x 0 (pow_pos n) ∙ ap (turns n) (⊕_zero x)
 
-pub byte_step : (r b : ℕ) → b < 256 → byte_step r b ≡ turns 8 (r ⊕ b)
+pub byte_step_lem : (r b : ℕ) → b < 256 → byte_step r b ≡ turns 8 (r ⊕ b)
 unfolding byte_step
-byte_step r b h = bit_steps_lem 8 r b h
+byte_step_lem r b h = bit_steps_lem 8 r b h
 
 pub bit_step_lt : (r b : ℕ) → b < 2 → r < 2 ^ 16 → bit_step r b < 2 ^ 16
 unfolding bit_step ◌⊕◌

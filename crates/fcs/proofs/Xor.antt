@@ -5,9 +5,9 @@ use Prim.Native.Nat.{ℕ, zero, suc, ◌+◌, ◌*◌, ◌/◌, ◌%◌, ◌^◌
 use native.Mathlib.Nat.{mod-lt, add-zero, zero-mul}
 use native.Mathlib.Numerals.{add-one}
 use native.Mathlib.Omega.{arith}
-use lib.Arith.{bin_ind, digits_mod}
+use lib.Arith.{digits_mod}
 use lib.Pow.{pow_pos, split, mod-mod-pow, field}
-use lib.Bits.{bit_xor, differ, xor_step, xor_comm, xor_zero_r, xor_self, xor_shr, xor_mod, xor_lt, xor_block, xor_shifted}
+use lib.Bits.{bit_xor, differ, xor_step, xor_assoc, xor_comm, xor_zero_r, xor_self, xor_shr, xor_mod, xor_lt, xor_block, xor_shifted}
 
 -- a number below 2 is 0 or 1
 pub digit : (P : ℕ → Type 0) → P 0 → P 1 → (x : ℕ) → x < 2 → P x
@@ -18,12 +18,6 @@ digit P p q (suc (suc x)) h = absurd (omega arith)
 pub differ_lt : (x y : ℕ) → x < 2 → y < 2 → differ x y < 2
 differ_lt x y hx hy =
     digit (λ (x : ℕ). differ x y < 2) hy (digit (λ (y : ℕ). differ 1 y < 2) (omega arith) (omega arith) y hy) x hx
-
-differ_assoc : (x y z : ℕ) → x < 2 → y < 2 → z < 2 → differ (differ x y) z ≡ differ x (differ y z)
-differ_assoc x y z hx hy hz =
-    digit (λ (x : ℕ). differ (differ x y) z ≡ differ x (differ y z)) refl
-    (digit (λ (y : ℕ). differ (differ 1 y) z ≡ differ 1 (differ y z)) refl
-    (digit (λ (z : ℕ). differ (differ 1 1) z ≡ differ 1 (differ 1 z)) refl refl z hz) y hy) x hx
 
 -- the lowest digit of a number's lowest digits, and the others
 pub low_odd : (n b : ℕ) → b % 2 ^ suc n % 2 ≡ b % 2
@@ -37,21 +31,6 @@ xor_odd : (a b : ℕ) → bit_xor a b % 2 ≡ differ (a % 2) (b % 2)
 xor_odd a b =
     ap (λ (x : ℕ). x % 2) (xor_step a b)
     ∙ digits_mod (bit_xor (a / 2) (b / 2)) (differ_lt (a % 2) (b % 2) (mod-lt a (omega arith)) (mod-lt b (omega arith)))
-
--- the other digits
-pub xor_half : (a b : ℕ) → bit_xor a b / 2 ≡ bit_xor (a / 2) (b / 2)
-xor_half a b = xor_shr a b 1
-
-xor_assoc : (a b c : ℕ) → bit_xor (bit_xor a b) c ≡ bit_xor a (bit_xor b c)
-xor_assoc =
-    bin_ind (λ (a : ℕ). (b c : ℕ) → bit_xor (bit_xor a b) c ≡ bit_xor a (bit_xor b c)) (λ b c. refl)
-    (λ a ih b c.
-    xor_step (bit_xor a b) c
-    ∙ ap₂ (λ (x y : ℕ). bit_xor x (c / 2) * 2 + differ y (c % 2)) (xor_half a b) (xor_odd a b)
-    ∙ ap₂ (λ (x y : ℕ). x * 2 + y) (ih (b / 2) (c / 2))
-    (differ_assoc (a % 2) (b % 2) (c % 2) (mod-lt a (omega arith)) (mod-lt b (omega arith)) (mod-lt c (omega arith)))
-    ∙ sym (ap₂ (λ (x y : ℕ). bit_xor (a / 2) x * 2 + differ (a % 2) y) (xor_half b c) (xor_odd b c))
-    ∙ sym (xor_step a (bit_xor b c)))
 
 -- xor under a name of its own, which no proof looks into unless it says so
 infixl 60 ◌⊕◌

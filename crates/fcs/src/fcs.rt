@@ -18,6 +18,7 @@ fn byte_step(r: u16, b: u8) -> u16
 }
 
 // The bytes from a place on.
+#[tactic(auto, using(crate::proofs::Register::from_next, crate::proofs::Register::from_end))]
 fn rest(start: u16, bytes: &[u8], from: usize) -> u16
     requires { from ≤ length bytes.now }
     ensures { result ≡ fcs_from start (drop from bytes.now) }

@@ -4,15 +4,12 @@ ghost use Rattle.std.specs.Prelude.{◌≤◌, ◌<◌};
 use crate::bitwise;
 use crate::known::verdict;
 use fcs::fcs::fcs;
+use std::io;
 
 // A line with its name, the count that is expected and the one that was got, and whether they are the same.
-pub fn line(name: &[u8], got: u16, expected: u16) {
-    io::write_all(1, name);
-    io::write_all(1, b": expected ");
-    io::print_decimal(1, expected as u64);
-    io::write_all(1, b", got ");
-    io::print_decimal(1, got as u64);
-    verdict(got == expected);
+pub fn line(rt: &impl Print, name: &str, got: u16, expected: u16) -> io::Result<()> {
+    print!(rt; "{name}: expected {expected}, got {got}")?;
+    verdict(rt, got == expected)
 }
 
 // 1 where both implementations answer the same.
