@@ -122,6 +122,7 @@ pub fn number(line: &[u8], at: usize, greatest: u64) -> Word
 }
 
 // The same, where it is the line's last word.
+#[tactic(auto, using(crate::proofs::WordLaws::is_last, crate::proofs::WordLaws::not_last))]
 pub fn last_number(line: &[u8], at: usize, greatest: u64) -> Word
     ensures { (result ≡ last_at line.now at greatest) × (result.value ≤ greatest) }
 {
