@@ -1,5 +1,4 @@
 pub mod ArgumentLaws
 pub mod Digits
 pub mod ParseLaws
-pub mod Signed
 pub mod WordLaws

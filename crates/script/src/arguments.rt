@@ -63,6 +63,7 @@ fn read_if(good: bool, read: Line) -> Line
 }
 
 // A line whose name is its only word.
+#[tactic(auto, using(crate::proofs::ArgumentLaws::no_more, crate::proofs::ArgumentLaws::more))]
 pub(crate) fn plain(line: &[u8], at: usize, read: Line) -> Line
     ensures { result ≡ read_numbers [] read (words_from line.now at) }
 {
@@ -74,6 +75,7 @@ pub(crate) fn plain(line: &[u8], at: usize, read: Line) -> Line
 }
 
 // A line with a 1 or a 0.
+#[tactic(auto, using(crate::proofs::ArgumentLaws::last_read))]
 pub(crate) fn flag(line: &[u8], at: usize, one: Line, nought: Line) -> Line
     ensures { result ≡ read_numbers (1 ∷ []) (λ v. cond (eqb v 1) one nought) (words_from line.now at) }
 {
@@ -86,6 +88,7 @@ pub(crate) fn flag(line: &[u8], at: usize, one: Line, nought: Line) -> Line
 }
 
 // `new`: the length of spi_buf, and a channel of one byte.
+#[tactic(auto, using(crate::proofs::ArgumentLaws::two_read))]
 pub(crate) fn new_line(line: &[u8], at: usize) -> Line
     ensures { result ≡ read_numbers (any ∷ 255 ∷ []) Line.New (words_from line.now at) }
 {
@@ -98,6 +101,7 @@ pub(crate) fn new_line(line: &[u8], at: usize) -> Line
 }
 
 // `transmit`: the buffer, its length and the frame's length, each any number.
+#[tactic(auto, using(crate::proofs::ArgumentLaws::three_read))]
 pub(crate) fn transmit_line(line: &[u8], at: usize) -> Line
     ensures { result ≡ read_numbers (any ∷ any ∷ any ∷ []) Line.Transmit (words_from line.now at) }
 {
@@ -111,6 +115,7 @@ pub(crate) fn transmit_line(line: &[u8], at: usize) -> Line
 }
 
 // `set_receive_buffer`: the buffer and its length, each any number.
+#[tactic(auto, using(crate::proofs::ArgumentLaws::two_read))]
 pub(crate) fn receive_buffer_line(line: &[u8], at: usize) -> Line
     ensures { result ≡ read_numbers (any ∷ any ∷ []) Line.SetReceiveBuffer (words_from line.now at) }
 {
@@ -133,6 +138,7 @@ pub(crate) fn done_line(line: &[u8], at: usize, bytes: &mut [u8]) -> Line
 }
 
 // `set_address`: a number of 16 bits.
+#[tactic(auto, using(crate::proofs::ArgumentLaws::last_read))]
 pub(crate) fn address_line(line: &[u8], at: usize) -> Line
     ensures { result ≡ read_numbers (65535 ∷ []) Line.SetAddress (words_from line.now at) }
 {
@@ -141,6 +147,7 @@ pub(crate) fn address_line(line: &[u8], at: usize) -> Line
 }
 
 // `set_pan`: a number of 16 bits.
+#[tactic(auto, using(crate::proofs::ArgumentLaws::last_read))]
 pub(crate) fn pan_line(line: &[u8], at: usize) -> Line
     ensures { result ≡ read_numbers (65535 ∷ []) Line.SetPan (words_from line.now at) }
 {
@@ -197,6 +204,7 @@ pub(crate) fn power_line(line: &[u8], at: usize) -> Line
 }
 
 // `set_channel`: a number of one byte, which the driver may still refuse.
+#[tactic(auto, using(crate::proofs::ArgumentLaws::last_read))]
 pub(crate) fn channel_line(line: &[u8], at: usize) -> Line
     ensures { result ≡ read_numbers (255 ∷ []) Line.SetChannel (words_from line.now at) }
 {
@@ -219,6 +227,7 @@ pub(crate) fn pool_line(line: &[u8], at: usize, bytes: &mut [u8]) -> Line
 }
 
 // `pool_length`: a number of bytes, at most the whole area.
+#[tactic(auto, using(crate::proofs::ArgumentLaws::last_read))]
 pub(crate) fn pool_length_line(line: &[u8], at: usize) -> Line
     ensures { result ≡ read_numbers (4096 ∷ []) Line.PoolLength (words_from line.now at) }
 {

@@ -18,8 +18,7 @@ use crate::arguments::{
     pool_length_line, pool_line, power_line, receive_buffer_line, transmit_line,
 };
 use crate::line::Line;
-use crate::words::word_end;
-use check::same;
+use crate::words::{same, word_end};
 
 // The longest line, without its line feed.
 const LONGEST: usize = 1024;

@@ -1,6 +1,9 @@
 // Text laid into a lent buffer. Each function is given the place to write at, and answers the place after what it wrote; past the
 // buffer's end nothing is written.
 
+ghost use Rattle.std.specs.Prelude.{◌≡◌, ◌≤◌, drop};
+ghost use Rattle.std.specs.Fmt.{decimal};
+
 // Writes one byte, where there is room for it.
 pub fn byte(out: &mut [u8], at: usize, b: u8) -> usize {
     if at < out.len() {
@@ -21,11 +24,28 @@ pub fn text(out: &mut [u8], at: usize, word: &[u8]) -> usize {
     end
 }
 
+// Puts a number's decimal digits at the end of `out`, and says where they begin.
+fn digits_of(value: u64, out: &mut [u8; 20]) -> usize
+    ensures start { result ≤ 20 }
+    ensures digits { drop result out.new ≡ decimal value }
+{
+    let mut left = value;
+    let mut at = 20;
+    while 9 < left {
+        at -= 1;
+        out[at] = b'0' + (left % 10) as u8;
+        left /= 10;
+    }
+    at -= 1;
+    out[at] = b'0' + left as u8;
+    at
+}
+
 // A number in decimal.
 pub fn decimal(out: &mut [u8], at: usize, value: u64) -> usize {
     let mut digits = [0u8; 20];
-    let n = io::decimal(value, &mut digits);
-    text(out, at, &digits[..n])
+    let start = digits_of(value, &mut digits);
+    text(out, at, &digits[start..])
 }
 
 // A space and a number.

@@ -1,8 +1,15 @@
 // The words of a line: names, and decimal numbers in their ranges. A second space makes an empty word, which nothing accepts.
 
-ghost use Rattle.std.specs.Prelude.{◌≡◌, ◌≤◌};
+ghost use Rattle.std.specs.Prelude.{◌≡◌, ◌≤◌, ◌↔◌, IsTrue};
 ghost use Rattle.script.specs.Decimal.{no_decimal, decimal_of};
 ghost use Rattle.script.specs.Words.{word_end, no_word, number_at, last_at};
+
+// The same bytes.
+pub fn same(a: &[u8], b: &[u8]) -> bool
+    ensures { IsTrue result ↔ a.now ≡ b.now }
+{
+    a == b
+}
 
 // A number, or none where `good` is false.
 #[derive(Clone, Copy)]
@@ -20,6 +27,7 @@ pub struct Word {
 }
 
 // Where the word that begins at `from` ends: at the next space, or at the end of the line.
+#[tactic(auto, using(crate::proofs::WordLaws::ends_here, crate::proofs::WordLaws::goes_on, crate::proofs::WordLaws::ends_last))]
 pub fn word_end(line: &[u8], from: usize) -> usize
     ensures { result ≡ word_end line.now from }
 {
@@ -114,6 +122,7 @@ pub fn number(line: &[u8], at: usize, greatest: u64) -> Word
 }
 
 // The same, where it is the line's last word.
+#[tactic(auto, using(crate::proofs::WordLaws::is_last, crate::proofs::WordLaws::not_last))]
 pub fn last_number(line: &[u8], at: usize, greatest: u64) -> Word
     ensures { (result ≡ last_at line.now at greatest) × (result.value ≤ greatest) }
 {

@@ -39,6 +39,7 @@ fn done(d: Driver) -> Outcome
 }
 
 // What the line asks for, with the bytes that it names, done.
+#[tactic(auto, unfolding(crate::specs::Asked::asked, crate::specs::Asked::performed, custody::specs::Claim::made))]
 pub fn make(d: Driver, line: Line, bytes: &[u8], pool: &mut [u8]) -> Outcome
     ensures { with_pool result pool.new ≡ performed d (asked line bytes.now) pool.old }
 {

@@ -15,6 +15,7 @@ fn in_byte(buffer: u64) -> u8
 }
 
 // What the book is fed, whatever bytes the line names.
+#[tactic(auto, unfolding(crate::specs::Asked::asked, crate::specs::Feeding::fed_by))]
 pub fn fed(line: Line) -> Fed
     ensures { (xs : List ℕ) → fed_of result ≡ fed_by (asked line xs) }
 {

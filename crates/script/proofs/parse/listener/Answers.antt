@@ -1,0 +1,30 @@
+-- `listener` meets its contract: each name is the table's next, and one that is none of the listeners is looked for further on.
+-- Assumes nothing.
+use Rattle.std.proofs.Common.{refl}
+use Rattle.script.specs.Parse.{same_bytes, form_of, from_listeners}
+use Rattle.script.proofs.ParseLaws.{found, skipped, silent}
+use Rattle.script.proofs.parse.listener.Goals as goal
+
+pub returns-then-same : goal.returns-then-same
+unfolding form_of same_bytes
+returns-then-same c = found from_listeners refl (c.same.ensures.0 c.if-same.true) (silent refl c.flag.ensures)
+
+pub returns-then-same-2 : goal.returns-then-same-2
+unfolding form_of same_bytes
+returns-then-same-2 c = found from_listeners refl (c.same-2.ensures.0 c.if-same-2.true) (silent refl c.flag-then-same-2.ensures)
+
+pub returns-then-same-3 : goal.returns-then-same-3
+unfolding form_of same_bytes
+returns-then-same-3 c = found from_listeners refl (c.same-3.ensures.0 c.if-same-3.true) (silent refl c.flag-then-same-3.ensures)
+
+pub returns-then-same-4 : goal.returns-then-same-4
+unfolding form_of same_bytes
+returns-then-same-4 c = found from_listeners refl (c.same-4.ensures.0 c.if-same-4.true) (silent refl c.flag-then-same-4.ensures)
+
+pub returns : goal.returns
+returns c =
+    skipped _ _ c.same.result c.same.ensures.1 c.if-same.false
+    (skipped _ _ c.same-2.result c.same-2.ensures.1 c.if-same-2.false
+    (skipped _ _ c.same-3.result c.same-3.ensures.1 c.if-same-3.false
+    (skipped _ _ c.same-4.result c.same-4.ensures.1 c.if-same-4.false
+    c.query.ensures)))
