@@ -60,10 +60,8 @@ fn notice(out: &mut [u8], at: usize, item: Item) -> usize {
 fn notices(out: &mut [u8], at: usize, actions: Actions) -> usize {
     let items = actions.items;
     let mut end = at;
-    let mut i: u8 = 0;
-    while i < 6 && i < actions.count {
+    for i in 0..actions.count.min(6) {
         end = notice(out, end, items[i as usize]);
-        i += 1;
     }
     end
 }
@@ -148,16 +146,15 @@ fn steps(from: Run, events: &[u8], shown: bool, out: &mut [u8], pool: &mut [u8])
 
 // What the events yield, behind those of the setup, which are not shown.
 fn yielded(out: &mut [u8], at: usize, setup: &[u8], events: &[u8]) -> usize {
-    let mut area = io::buffer();
-    let pool = &mut area[0..3040];
+    let mut pool = [0u8; 3040];
     let made = new(129, 26);
     let driver = made.driver;
     let from = Run {
         driver: driver,
         at: at,
     };
-    let ready = steps(from, setup, false, out, pool);
-    let ended = steps(ready, events, true, out, pool);
+    let ready = steps(from, setup, false, out, &mut pool);
+    let ended = steps(ready, events, true, out, &mut pool);
     ended.at
 }
 
@@ -169,7 +166,7 @@ fn is_expected(out: &[u8], from: usize, to: usize, expected: &[u8]) -> bool {
     if out.len() < to {
         return false;
     }
-    check::same(&out[from + 1..to], expected)
+    &out[from + 1..to] == expected
 }
 
 // The end of the line: whether what was got is what is expected.

@@ -4,11 +4,12 @@
 mod corner;
 mod table;
 
+use std::io;
 use stdio::streams::write_first;
 
 // Runs the eight corners one after another, and writes their lines.
-fn main() {
-    let mut out = io::large_buffer();
+fn main(rt: HostRuntime) -> io::Result<()> {
+    let mut out = [0u8; 65536];
     let a = table::corner_1(&mut out, 0);
     let b = table::corner_2(&mut out, a);
     let c = table::corner_3(&mut out, b);
@@ -17,5 +18,5 @@ fn main() {
     let f = table::corner_6(&mut out, e);
     let g = table::corner_7(&mut out, f);
     let h = table::corner_8(&mut out, g);
-    write_first(&out, h);
+    write_first(&mut rt.stdout(), &out, h)
 }

@@ -5,14 +5,15 @@
 mod describe;
 mod stream;
 
+use std::io;
 use stdio::streams::write_first;
 
 // Reads the input, which is shorter than the buffer, and writes a line for each of its lines.
-fn main() {
-    let mut input = io::large_buffer();
+fn main(rt: HostRuntime) -> io::Result<()> {
+    let mut input = [0u8; 65536];
     let mut bytes = [0u8; 1024];
-    let mut out = io::large_buffer();
-    let filled = stream::fill(&mut input);
+    let mut out = [0u8; 65536];
+    let filled = stream::fill(&mut rt.stdin(), &mut input)?;
     let end = stream::lines(&input, filled, &mut bytes, &mut out);
-    write_first(&out, end);
+    write_first(&mut rt.stdout(), &out, end)
 }

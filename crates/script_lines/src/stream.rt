@@ -1,20 +1,33 @@
 // Standard input read into a buffer, and its lines one after another.
+ghost use Rattle.std.specs.Prelude.{◌≤◌, length};
+
 use crate::describe::describe;
-use bytes::scan::find;
 use script::parse::parse;
+use std::io;
+use std::io::Stdin;
 use stdio::streams::read_once;
 
 // Reads until the input is at its end, or the buffer full.
-pub fn fill(input: &mut [u8]) -> usize {
+pub fn fill(stdin: &mut Stdin, input: &mut [u8]) -> io::Result<usize> {
     let mut filled = 0;
     while filled < input.len() {
-        let n = read_once(&mut input[filled..]);
+        let n = read_once(stdin, &mut input[filled..])?;
         if n == 0 {
-            return filled;
+            return Ok(filled);
         }
         filled += n;
     }
-    filled
+    Ok(filled)
+}
+
+// How long the first line is, without its line feed.
+fn line_length(input: &[u8]) -> usize
+    ensures { result ≤ length input.now }
+{
+    match input.iter().position(|b| *b == b'\n') {
+        Some(n) => n,
+        None => input.len(),
+    }
 }
 
 // How each of the lines in the first `filled` bytes is read. The last may lack its line feed.
@@ -25,7 +38,7 @@ pub fn lines(input: &[u8], filled: usize, bytes: &mut [u8], out: &mut [u8]) -> u
     }
     let mut from = 0;
     while from < filled {
-        let stop = find(input, from, filled, b'\n');
+        let stop = from + line_length(&input[from..filled]);
         let line = parse(&input[from..stop], bytes);
         end = describe(out, end, line, bytes);
         from = stop + 1;

@@ -32,10 +32,8 @@ fn line(out: &mut [u8], at: usize, k: u8) -> usize {
 // All 256 lines. The answer is how many bytes they are.
 pub fn lines(out: &mut [u8]) -> usize {
     let mut end = 0;
-    let mut k: u16 = 0;
-    while k < 256 {
+    for k in 0..256u16 {
         end = line(out, end, k as u8);
-        k += 1;
     }
     end
 }

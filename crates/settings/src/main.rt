@@ -3,30 +3,34 @@
 
 mod list;
 
-use libc::STDERR_FILENO;
+use std::env::{Env, FillError};
+use std::io;
+use std::io::{Eprint, Stdout};
+use stdio::streams::write_first;
 
 // Says on standard error how the program is called.
-fn usage() {
-    io::write_all(
-        STDERR_FILENO,
-        b"usage: settings: for each power from -128 to 127 a line, the power and its setting\n",
-    );
+fn usage(rt: &impl Eprint) -> io::Result<()> {
+    eprintln!(rt;
+        "usage: settings: for each power from -128 to 127 a line, the power and its setting"
+    )
 }
 
-// Writes the list to standard output. Where that fails, standard error says why.
-fn write_list() {
-    let mut out = io::buffer();
+// Whether there is an argument.
+fn has_argument(rt: &impl Env) -> bool {
+    !matches!(rt.arg(1, &mut []), Err(FillError::NotPresent))
+}
+
+// Writes the list to standard output. Where that fails, `main` ends with the error, and standard error says why.
+fn write_list(stdout: &mut Stdout) -> io::Result<()> {
+    let mut out = [0u8; 4096];
     let n = list::lines(&mut out);
-    if !stdio::streams::write_first(&out, n) {
-        os::fail(b"settings: standard output");
-    }
+    write_first(stdout, &out, n)
 }
 
 // Without an argument the list is written.
-fn main() {
-    if os::arg_count() <= 1 {
-        write_list();
-    } else {
-        usage();
+fn main(rt: HostRuntime) -> io::Result<()> {
+    if has_argument(&rt) {
+        return usage(&rt);
     }
+    write_list(&mut rt.stdout())
 }
