@@ -41,7 +41,9 @@ fn asked_for(rt: &impl Env) -> Asked {
 
 // Says on standard error how the program is called.
 fn usage(rt: &impl Eprint) -> io::Result<()> {
-    rt.eprintln("usage: replay [trace] < script: what a script's calls yield, or their trace blocks")
+    rt.eprintln(
+        "usage: replay [trace] < script: what a script's calls yield, or their trace blocks",
+    )
 }
 
 // Answers the script on standard input as the arguments ask, or says how the program is called.

@@ -43,10 +43,8 @@ fn still_first(first: bool, n: u8, c: u8, e: u8, as_arrow: bool) -> bool {
 // No situation before c has its outcome.
 pub fn is_first(n: u8, c: u8, as_arrow: bool) -> bool {
     let mut first = true;
-    let mut e: u8 = 0;
-    while e < c {
+    for e in 0..c {
         first = still_first(first, n, c, e, as_arrow);
-        e += 1;
     }
     first
 }
@@ -65,10 +63,8 @@ fn further(out: &mut [u8], at: usize, n: u8, c: u8, e: u8, as_arrow: bool) -> us
 // The names of the conditions after c with its outcome.
 fn further_names(out: &mut [u8], at: usize, n: u8, c: u8, as_arrow: bool) -> usize {
     let mut end = at;
-    let mut e: u8 = 0;
-    while e < COMBINED {
+    for e in 0..COMBINED {
         end = further(out, end, n, c, e, as_arrow);
-        e += 1;
     }
     end
 }
