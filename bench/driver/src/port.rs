@@ -1,4 +1,4 @@
-//! The port's side: the library that `rt staticlib driver_bench` makes.
+//! The port's side: the library that `rt lib` makes in `crates/driver_bench`.
 
 use crate::scenario::Scenario;
 

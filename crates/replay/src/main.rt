@@ -1,8 +1,9 @@
 // `replay`: a script of calls on standard input, the driver's answers, or with the argument `trace` its trace blocks, on standard output.
 #![tactic(auto)]
 
-use libc::STDERR_FILENO;
 use replay_run::replay;
+use std::env::{Env, FillError};
+use std::io;
 
 // What the arguments ask for.
 #[derive(Clone, Copy)]
@@ -12,33 +13,44 @@ enum Asked {
     Unknown,
 }
 
+// The program has an argument of this number: one that is longer than the buffer is there too.
+fn has_arg(rt: &impl Env, number: usize) -> bool {
+    let mut start = [0u8; 8];
+    !matches!(rt.arg(number, &mut start), Err(FillError::NotPresent))
+}
+
+// The program's argument of this number is the word.
+fn is_arg(rt: &impl Env, number: usize, word: &[u8]) -> bool {
+    let mut arg = [0u8; 4096];
+    match rt.arg(number, &mut arg) {
+        Ok(length) => &arg[..length] == word,
+        Err(_) => false,
+    }
+}
+
 // None, or the one argument `trace`.
-fn asked_for() -> Asked {
-    let mut word = io::buffer();
-    let count = os::arg_count();
-    let length = os::arg(1, &mut word);
-    if count <= 1 {
+fn asked_for(rt: &impl Env) -> Asked {
+    if !has_arg(rt, 1) {
         return Asked::Text;
     }
-    if count == 2 && check::same(&word[..length], b"trace") {
+    if is_arg(rt, 1, b"trace") && !has_arg(rt, 2) {
         return Asked::Trace;
     }
     Asked::Unknown
 }
 
 // Says on standard error how the program is called.
-fn usage() {
-    io::write_all(
-        STDERR_FILENO,
-        b"usage: replay [trace] < script: what a script's calls yield, or their trace blocks\n",
-    );
+fn usage(rt: &impl Eprint) -> io::Result<()> {
+    rt.eprintln(
+        "usage: replay [trace] < script: what a script's calls yield, or their trace blocks",
+    )
 }
 
 // Answers the script on standard input as the arguments ask, or says how the program is called.
-fn main() {
-    match asked_for() {
-        Asked::Text => replay(false),
-        Asked::Trace => replay(true),
-        Asked::Unknown => usage(),
+fn main(rt: HostRuntime) -> io::Result<()> {
+    match asked_for(&rt) {
+        Asked::Text => replay(&mut rt.stdin(), &mut rt.stdout(), false),
+        Asked::Trace => replay(&mut rt.stdin(), &mut rt.stdout(), true),
+        Asked::Unknown => usage(&rt),
     }
 }

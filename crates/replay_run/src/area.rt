@@ -3,7 +3,7 @@
 // Copies all of `from`, where there is room for it.
 pub fn copy(from: &[u8], to: &mut [u8]) {
     if from.len() <= to.len() {
-        bytes::copy(from, to);
+        to[..from.len()].copy_from_slice(from);
     }
 }
 

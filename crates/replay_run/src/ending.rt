@@ -8,10 +8,8 @@ use script::print::{byte_fields, field, line_end, text};
 // Where the driver's record has each buffer.
 fn record(b: Buffers) -> [u8; 19] {
     let mut places = [0u8; 19];
-    let mut i: u8 = 0;
-    while i < 19 {
+    for i in 0..19 {
         places[i as usize] = place_in_record(b, i);
-        i += 1;
     }
     places
 }
@@ -19,12 +17,10 @@ fn record(b: Buffers) -> [u8; 19] {
 // How many of the clients' buffers are not with the client.
 fn with_driver(places: [u8; 19]) -> u64 {
     let mut count: u64 = 0;
-    let mut i = 0;
-    while i < 16 {
+    for i in 0..16 {
         if places[i] != 0 {
             count += 1;
         }
-        i += 1;
     }
     count
 }

@@ -81,7 +81,7 @@ fn after_call(run: Run, done: Outcome, page: Book, written: usize) -> Run {
     };
     let mut next = run;
     next.session = session;
-    next.calls = std::num::wrapping_add_u64(run.calls, 1);
+    next.calls = run.calls.wrapping_add(1);
     next.written = written;
     next
 }
@@ -187,7 +187,7 @@ pub fn perform_text(
     out: &mut [u8],
 ) -> Run {
     let mut next = run;
-    next.lines = std::num::wrapping_add_u64(run.lines, 1);
+    next.lines = run.lines.wrapping_add(1);
     let line = parse(words, bytes);
     perform(next, line, bytes, area, kept, out)
 }

@@ -1,10 +1,12 @@
-// Standard input as a stream of lines: no more than a line is held, and the output is written when there is much of it.
+// The input as a stream of lines: no more than a line is held, and the output is written when there is much of it.
 ghost use Rattle.std.specs.Prelude.{◌≤◌, length};
 
 use crate::ending::ending;
 use crate::perform::{malformed, perform_text};
 use crate::run::{Run, first_run};
 use crate::tracing::end_trace;
+use std::io;
+use std::io::{Read, Write};
 use stdio::streams::{read_once, write_first};
 
 // The output is written when it has grown past this: one line adds less than the rest of the buffer.
@@ -32,22 +34,18 @@ fn gather(text: &mut [u8], filled: usize, piece: &[u8]) -> usize {
     if text.len() - filled < piece.len() {
         return text.len() + 1;
     }
-    bytes::copy(piece, &mut text[filled..]);
+    text[filled..filled + piece.len()].copy_from_slice(piece);
     filled + piece.len()
 }
 
-// Writes the output that there is, where it is much and no block of a trace is being filled behind it. Where it cannot be written, the run
-// is over.
-fn write_much(run: Run, out: &[u8]) -> Run {
+// Writes the output that there is, where it is much and no block of a trace is being filled behind it. Answers how much is still there.
+fn write_much<W: Write>(to: &mut W, run: Run, out: &[u8]) -> io::Result<usize> {
     let trace = run.trace;
     if run.written <= MUCH || 0 < trace.records {
-        return run;
+        return Ok(run.written);
     }
-    let is_written = write_first(out, run.written);
-    let mut next = run;
-    next.over = run.over | !is_written;
-    next.written = 0;
-    next
+    write_first(to, out, run.written)?;
+    Ok(0)
 }
 
 // The line that was gathered is performed.
@@ -62,12 +60,12 @@ fn line_done(
     let filled = run.filled;
     if text.len() < filled {
         let mut next = run;
-        next.lines = std::num::wrapping_add_u64(run.lines, 1);
+        next.lines = run.lines.wrapping_add(1);
         return malformed(next, out);
     }
     let mut done = perform_text(run, &text[0..filled], bytes, area, kept, out);
     done.filled = 0;
-    write_much(done, out)
+    done
 }
 
 // A piece of a line, and whether the line ends there. A line that is too long by now is not waited for.
@@ -94,7 +92,8 @@ fn take_piece(
 }
 
 // A part of the input, line by line, until the run is over.
-fn feed(
+fn feed<W: Write>(
+    to: &mut W,
     first: Run,
     input: &[u8],
     text: &mut [u8],
@@ -102,16 +101,17 @@ fn feed(
     area: &mut [u8],
     kept: &mut [u8],
     out: &mut [u8],
-) -> Run {
+) -> io::Result<Run> {
     let mut run = first;
     let mut from = 0;
     while from < input.len() && !run.over {
         let stop = line_stop(input, from);
         let ends = stop < input.len();
         run = take_piece(run, &input[from..stop], ends, text, bytes, area, kept, out);
+        run.written = write_much(to, run, out)?;
         from = stop + 1;
     }
-    run
+    Ok(run)
 }
 
 // The last line, where it has no line feed.
@@ -144,7 +144,8 @@ fn close(run: Run, out: &mut [u8]) -> Run {
 }
 
 // What was read is performed. Where it was nothing, the input is at its end.
-fn take_part(
+fn take_part<W: Write>(
+    to: &mut W,
     run: Run,
     part: &[u8],
     text: &mut [u8],
@@ -152,16 +153,18 @@ fn take_part(
     area: &mut [u8],
     kept: &mut [u8],
     out: &mut [u8],
-) -> Run {
+) -> io::Result<Run> {
     if part.len() == 0 {
         let last = last_line(run, text, bytes, area, kept, out);
-        return close(last, out);
+        return Ok(close(last, out));
     }
-    feed(run, part, text, bytes, area, kept, out)
+    feed(to, run, part, text, bytes, area, kept, out)
 }
 
 // Reads once, and performs what came.
-fn read_some(
+fn read_some<R: Read, W: Write>(
+    from: &mut R,
+    to: &mut W,
     run: Run,
     input: &mut [u8],
     text: &mut [u8],
@@ -169,13 +172,15 @@ fn read_some(
     area: &mut [u8],
     kept: &mut [u8],
     out: &mut [u8],
-) -> Run {
-    let n = read_once(input);
-    take_part(run, &input[..n], text, bytes, area, kept, out)
+) -> io::Result<Run> {
+    let n = read_once(from, input)?;
+    take_part(to, run, &input[..n], text, bytes, area, kept, out)
 }
 
 // Nothing says that the input ends, and a loop has to: it counts its turns down, from a number that no run uses up.
-fn read_all(
+fn read_all<R: Read, W: Write>(
+    from: &mut R,
+    to: &mut W,
     traced: bool,
     input: &mut [u8],
     text: &mut [u8],
@@ -183,24 +188,26 @@ fn read_all(
     area: &mut [u8],
     kept: &mut [u8],
     out: &mut [u8],
-) -> Run {
+) -> io::Result<Run> {
     let mut run = first_run(traced);
     let mut turns = u64::MAX;
     while 0 < turns && !run.over {
-        run = read_some(run, input, text, bytes, area, kept, out);
+        run = read_some(from, to, run, input, text, bytes, area, kept, out)?;
         turns -= 1;
     }
-    run
+    Ok(run)
 }
 
 // The last that is written.
-fn end_run(run: Run, out: &mut [u8]) {
+fn end_run<W: Write>(to: &mut W, run: Run, out: &mut [u8]) -> io::Result<()> {
     let ended = end_trace(run, out);
-    write_first(out, ended.written);
+    write_first(to, out, ended.written)
 }
 
 // A whole script, from its first line to what is written last: its text, or its trace.
-pub fn run_script(
+pub fn run_script<R: Read, W: Write>(
+    from: &mut R,
+    to: &mut W,
     traced: bool,
     input: &mut [u8],
     text: &mut [u8],
@@ -208,7 +215,7 @@ pub fn run_script(
     area: &mut [u8],
     kept: &mut [u8],
     out: &mut [u8],
-) {
-    let run = read_all(traced, input, text, bytes, area, kept, out);
-    end_run(run, out);
+) -> io::Result<()> {
+    let run = read_all(from, to, traced, input, text, bytes, area, kept, out)?;
+    end_run(to, run, out)
 }

@@ -3,8 +3,9 @@
 #![tactic(auto)]
 
 use replay_run::replay;
+use std::io;
 
 // Answers the script on standard input with its trace.
-fn main() {
-    replay(true);
+fn main(rt: HostRuntime) -> io::Result<()> {
+    replay(&mut rt.stdin(), &mut rt.stdout(), true)
 }

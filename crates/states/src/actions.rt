@@ -100,12 +100,9 @@ fn action(out: &mut [u8], at: usize, a: Action) -> usize {
 pub fn actions(out: &mut [u8], at: usize, list: Actions) -> usize {
     let items = list.items;
     let mut end = at;
-    let mut i = 0;
-    while i < 6 {
-        let item = items[i];
+    for item in items {
         let a = item.action;
         end = action(out, end, a);
-        i += 1;
     }
     or_dash(out, at, end)
 }

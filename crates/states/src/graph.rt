@@ -37,10 +37,8 @@ fn cluster_node(out: &mut [u8], at: usize, first: u8, n: u8) -> usize {
 // The nodes of all states of the cluster whose first state this is.
 fn cluster_nodes(out: &mut [u8], at: usize, first: u8) -> usize {
     let mut end = at;
-    let mut n: u8 = 0;
-    while n < 69 {
+    for n in 0..69 {
         end = cluster_node(out, end, first, n);
-        n += 1;
     }
     end
 }
@@ -202,10 +200,8 @@ fn condition_arrow(out: &mut [u8], at: usize, n: u8, c: u8) -> usize {
 // The arrows of a state's completions, for each condition.
 fn state_arrows(out: &mut [u8], at: usize, n: u8) -> usize {
     let mut end = at;
-    let mut c: u8 = 0;
-    while c < CONDITIONS {
+    for c in 0..CONDITIONS {
         end = condition_arrow(out, end, n, c);
-        c += 1;
     }
     end
 }
@@ -213,10 +209,8 @@ fn state_arrows(out: &mut [u8], at: usize, n: u8) -> usize {
 // The arrows of the completions of all 69 states.
 fn completions(out: &mut [u8], at: usize) -> usize {
     let mut end = at;
-    let mut n: u8 = 0;
-    while n < 69 {
+    for n in 0..69 {
         end = state_arrows(out, end, n);
-        n += 1;
     }
     end
 }
@@ -259,10 +253,8 @@ fn exception_arrow(out: &mut [u8], at: usize, n: u8, c: u8) -> usize {
 // The arrows of situation c in all states that are exceptions to it.
 fn exceptions(out: &mut [u8], at: usize, c: u8) -> usize {
     let mut end = at;
-    let mut n: u8 = 0;
-    while n < 69 {
+    for n in 0..69 {
         end = exception_arrow(out, end, n, c);
-        n += 1;
     }
     end
 }
@@ -270,11 +262,9 @@ fn exceptions(out: &mut [u8], at: usize, c: u8) -> usize {
 // The arrows of interrupts, firings and calls, but for those that come during a register transfer.
 fn events(out: &mut [u8], at: usize) -> usize {
     let mut end = at;
-    let mut c: u8 = NO_INTERRUPT;
-    while c < DURING {
+    for c in NO_INTERRUPT..DURING {
         end = general_arrow(out, end, c);
         end = exceptions(out, end, c);
-        c += 1;
     }
     end
 }

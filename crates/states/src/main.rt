@@ -11,7 +11,10 @@ mod setup;
 mod situation;
 mod table;
 
-use libc::STDERR_FILENO;
+use std::env::{Env, FillError};
+use std::io;
+use std::io::Write;
+use stdio::streams::write_first;
 
 // What the arguments ask for.
 #[derive(Clone, Copy)]
@@ -21,47 +24,56 @@ enum Asked {
     Unknown,
 }
 
+// The program has an argument of this number: one that is longer than the buffer is there too.
+fn has_arg(rt: &impl Env, number: usize) -> bool {
+    let mut start = [0u8; 8];
+    !matches!(rt.arg(number, &mut start), Err(FillError::NotPresent))
+}
+
+// The program's argument of this number is the word.
+fn is_arg(rt: &impl Env, number: usize, word: &[u8]) -> bool {
+    let mut arg = [0u8; 4096];
+    match rt.arg(number, &mut arg) {
+        Ok(length) => &arg[..length] == word,
+        Err(_) => false,
+    }
+}
+
 // None, or the one argument `graph`.
-fn asked_for() -> Asked {
-    let mut word = io::buffer();
-    let count = os::arg_count();
-    let length = os::arg(1, &mut word);
-    if count <= 1 {
+fn asked_for(rt: &impl Env) -> Asked {
+    if !has_arg(rt, 1) {
         return Asked::Lines;
     }
-    if count == 2 && check::same(&word[..length], b"graph") {
+    if is_arg(rt, 1, b"graph") && !has_arg(rt, 2) {
         return Asked::Arrows;
     }
     Asked::Unknown
 }
 
-// Writes the table to standard output.
-fn write_table() {
-    let mut out = io::large_buffer();
+// Writes the table.
+fn write_table(to: &mut impl Write) -> io::Result<()> {
+    let mut out = [0u8; 65536];
     let n = table::table(&mut out);
-    stdio::streams::write_first(&out, n);
+    write_first(to, &out, n)
 }
 
-// Writes the graph to standard output.
-fn write_graph() {
-    let mut out = io::large_buffer();
+// Writes the graph.
+fn write_graph(to: &mut impl Write) -> io::Result<()> {
+    let mut out = [0u8; 65536];
     let n = graph::graph(&mut out);
-    stdio::streams::write_first(&out, n);
+    write_first(to, &out, n)
 }
 
 // Says on standard error how the program is called.
-fn usage() {
-    io::write_all(
-        STDERR_FILENO,
-        b"usage: states [graph]: the driver's states as a table, or as a graph for graphviz\n",
-    );
+fn usage(rt: &impl Eprint) -> io::Result<()> {
+    rt.eprintln("usage: states [graph]: the driver's states as a table, or as a graph for graphviz")
 }
 
-// Writes what the arguments ask for, or says how the program is called.
-fn main() {
-    match asked_for() {
-        Asked::Lines => write_table(),
-        Asked::Arrows => write_graph(),
-        Asked::Unknown => usage(),
+// Writes what the arguments ask for to standard output, or says how the program is called.
+fn main(rt: HostRuntime) -> io::Result<()> {
+    match asked_for(&rt) {
+        Asked::Lines => write_table(&mut rt.stdout()),
+        Asked::Arrows => write_graph(&mut rt.stdout()),
+        Asked::Unknown => usage(&rt),
     }
 }

@@ -12,7 +12,7 @@ fn same_columns(n: u8, c: u8, m: u8, e: u8) -> bool {
     let mut b = [0u8; 256];
     columns(&mut a, 0, n, c);
     columns(&mut b, 0, m, e);
-    check::same(&a, &b)
+    a == b
 }
 
 // Situations c and e of state n lead to the same next state with the same transfer.
@@ -21,7 +21,7 @@ fn same_arrow(n: u8, c: u8, e: u8) -> bool {
     let mut b = [0u8; 256];
     arrow(&mut a, 0, n, c);
     arrow(&mut b, 0, n, e);
-    check::same(&a, &b)
+    a == b
 }
 
 // Situations c and e of state n have the same outcome: as an arrow of the graph, or in all columns.
@@ -43,10 +43,8 @@ fn still_first(first: bool, n: u8, c: u8, e: u8, as_arrow: bool) -> bool {
 // No situation before c has its outcome.
 pub fn is_first(n: u8, c: u8, as_arrow: bool) -> bool {
     let mut first = true;
-    let mut e: u8 = 0;
-    while e < c {
+    for e in 0..c {
         first = still_first(first, n, c, e, as_arrow);
-        e += 1;
     }
     first
 }
@@ -65,10 +63,8 @@ fn further(out: &mut [u8], at: usize, n: u8, c: u8, e: u8, as_arrow: bool) -> us
 // The names of the conditions after c with its outcome.
 fn further_names(out: &mut [u8], at: usize, n: u8, c: u8, as_arrow: bool) -> usize {
     let mut end = at;
-    let mut e: u8 = 0;
-    while e < COMBINED {
+    for e in 0..COMBINED {
         end = further(out, end, n, c, e, as_arrow);
-        e += 1;
     }
     end
 }

@@ -33,10 +33,8 @@ fn condition_line(out: &mut [u8], at: usize, n: u8, c: u8) -> usize {
 // The lines of a state's completions, for each condition.
 fn state_lines(out: &mut [u8], at: usize, n: u8) -> usize {
     let mut end = at;
-    let mut c: u8 = 0;
-    while c < CONDITIONS {
+    for c in 0..CONDITIONS {
         end = condition_line(out, end, n, c);
-        c += 1;
     }
     end
 }
@@ -44,10 +42,8 @@ fn state_lines(out: &mut [u8], at: usize, n: u8) -> usize {
 // The lines of the completions of all 69 states.
 fn completions(out: &mut [u8], at: usize) -> usize {
     let mut end = at;
-    let mut n: u8 = 0;
-    while n < 69 {
+    for n in 0..69 {
         end = state_lines(out, end, n);
-        n += 1;
     }
     end
 }
@@ -77,10 +73,8 @@ fn exception_line(out: &mut [u8], at: usize, n: u8, c: u8) -> usize {
 // The lines of all states that are exceptions to situation c.
 fn exceptions(out: &mut [u8], at: usize, c: u8) -> usize {
     let mut end = at;
-    let mut n: u8 = 0;
-    while n < 69 {
+    for n in 0..69 {
         end = exception_line(out, end, n, c);
-        n += 1;
     }
     end
 }
@@ -88,11 +82,9 @@ fn exceptions(out: &mut [u8], at: usize, c: u8) -> usize {
 // The lines of interrupts, firings and calls.
 fn events(out: &mut [u8], at: usize) -> usize {
     let mut end = at;
-    let mut c: u8 = NO_INTERRUPT;
-    while c < SITUATIONS {
+    for c in NO_INTERRUPT..SITUATIONS {
         end = general_line(out, end, c);
         end = exceptions(out, end, c);
-        c += 1;
     }
     end
 }
