@@ -100,6 +100,7 @@ fn no_word(line: &[u8]) -> Word
 }
 
 // The next word of the line after place `at`, a number of at most `greatest`.
+#[tactic(auto, using(crate::proofs::WordLaws::ends_within, crate::proofs::WordLaws::begins_within, crate::proofs::WordLaws::none_past, crate::proofs::WordLaws::taken, crate::proofs::WordLaws::too_large, crate::proofs::WordLaws::no_number))]
 pub fn number(line: &[u8], at: usize, greatest: u64) -> Word
     ensures { (result ≡ number_at line.now at greatest) × (result.value ≤ greatest) }
 {
