@@ -1,5 +1,4 @@
 pub mod Conditions
-pub mod Onward
 pub mod Answers
 pub mod Keys
 pub mod Tables

@@ -82,7 +82,6 @@ const COMMIT: [Write; 13] = [
 ];
 
 // CONFIG_SHORT0_SET to CONFIG_POWER_SET: each has a row of its own.
-#[tactic(auto, unfolding(crate::specs::Case::trees, crate::specs::Case::tree_at))]
 pub fn commit_case(d: Driver, a: Arrived) -> Outcome
     requires { (45 ≤ state_no d.state) × (state_no d.state ≤ 57) }
     ensures { result ≡ own_case a d }

@@ -165,7 +165,6 @@ fn ready_marked(d: Driver) -> Driver
 }
 
 // READY bookkeeping, and what follows it.
-#[tactic(auto, unfolding(crate::specs::Completion::ready_bookkeeping))]
 pub fn ready_bookkeeping(d: Driver, a: Arrived) -> Outcome
     ensures { result ≡ ready_bookkeeping a d }
 {

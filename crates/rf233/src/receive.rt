@@ -1,4 +1,6 @@
 // Reception: the states from RX_TURNING_OFF to RX_ENABLING_RECEPTION.
+#![tactic(auto, unfolding(crate::specs::Case::case_of, crate::specs::Case::tree_at, crate::specs::Case::trees, crate::specs::Rows::eval, crate::specs::Rows::holds, crate::specs::Case::perform, crate::specs::Choice::pick, crate::specs::Receive::onward_read))]
+
 ghost use Rattle.std.specs.Prelude.{◌≡◌, true, [], ◌∷◌};
 ghost use Rattle.rf233.specs.Case.{own_case};
 ghost use Rattle.rf233.specs.Choice.{one_of};
@@ -18,7 +20,6 @@ use rf233_const::register::RF233Register;
 use rf233_const::trx_state::RF233TrxCmd;
 
 // The case of each of these states that does something.
-#[tactic(auto, unfolding(crate::specs::Case::case_of, crate::specs::Case::tree_at, crate::specs::Case::trees, crate::specs::Rows::eval, crate::specs::Case::perform))]
 pub fn receive_case(d: Driver, a: Arrived) -> Outcome
     requires { one_of (60 ∷ 62 ∷ 64 ∷ 66 ∷ 67 ∷ 68 ∷ []) (state_no d.state) ≡ true }
     ensures { result ≡ own_case a d }
@@ -40,7 +41,6 @@ pub fn receive_case(d: Driver, a: Arrived) -> Outcome
 }
 
 // Reception is off: the interrupt that told of the frame's end is read.
-#[tactic(auto, unfolding(crate::specs::Case::case_of, crate::specs::Case::tree_at, crate::specs::Case::trees, crate::specs::Rows::eval, crate::specs::Case::perform, crate::specs::Choice::pick))]
 fn rx_turning_off(d: Driver, a: Arrived) -> Outcome
     requires { state_no d.state ≡ 60 }
     ensures { result ≡ own_case a d }
@@ -55,7 +55,6 @@ fn rx_turning_off(d: Driver, a: Arrived) -> Outcome
 }
 
 // The frame's length is read first: a frame read of no bytes brings the status and the length.
-#[tactic(auto, unfolding(crate::specs::Case::case_of, crate::specs::Case::tree_at, crate::specs::Case::trees, crate::specs::Rows::eval, crate::specs::Case::perform, crate::specs::Choice::pick))]
 fn rx_start_reading(d: Driver, a: Arrived) -> Outcome
     requires { state_no d.state ≡ 62 }
     ensures { result ≡ own_case a d }
@@ -67,7 +66,6 @@ fn rx_start_reading(d: Driver, a: Arrived) -> Outcome
 }
 
 // A length from MIN_FRAME_SIZE to MAX_FRAME_SIZE is read out; any other is left.
-#[tactic(auto, unfolding(crate::specs::Case::case_of, crate::specs::Case::tree_at, crate::specs::Case::trees, crate::specs::Rows::eval, crate::specs::Case::perform, crate::specs::Choice::pick, crate::specs::Rows::holds, crate::specs::Receive::onward_read))]
 fn rx_reading_frame_len_done(d: Driver, a: Arrived) -> Outcome
     requires { state_no d.state ≡ 64 }
     ensures { result ≡ own_case a d }
@@ -83,7 +81,6 @@ fn rx_reading_frame_len_done(d: Driver, a: Arrived) -> Outcome
 }
 
 // Whether the frame's check was valid is kept, and the radio is turned back on.
-#[tactic(auto, unfolding(crate::specs::Case::case_of, crate::specs::Case::tree_at, crate::specs::Case::trees, crate::specs::Rows::eval, crate::specs::Case::perform, crate::specs::Choice::pick))]
 fn rx_reading_frame_fcs_done(d: Driver, a: Arrived) -> Outcome
     requires { state_no d.state ≡ 67 }
     ensures { result ≡ own_case a d }
@@ -99,7 +96,6 @@ fn rx_reading_frame_fcs_done(d: Driver, a: Arrived) -> Outcome
 }
 
 // The frame is handed to the listener; with none its buffer stays held. A waiting stop is withdrawn.
-#[tactic(auto, unfolding(crate::specs::Case::case_of, crate::specs::Case::tree_at, crate::specs::Case::trees, crate::specs::Rows::eval, crate::specs::Case::perform, crate::specs::Choice::pick, crate::specs::Rows::holds, crate::specs::Receive::onward_read))]
 fn rx_enabling_reception(d: Driver, a: Arrived) -> Outcome
     requires { state_no d.state ≡ 68 }
     ensures { result ≡ own_case a d }
@@ -117,7 +113,6 @@ fn rx_enabling_reception(d: Driver, a: Arrived) -> Outcome
 }
 
 // TRX_STATUS is read, and the next state is the beginning of a send where one waits.
-#[tactic(auto, unfolding(crate::specs::Receive::onward_read, crate::specs::Choice::pick))]
 fn onward_read(d: Driver) -> Outcome
     ensures { result ≡ onward_read d }
 {

@@ -1,4 +1,6 @@
 // Startup: the states from START to ON_PLL_SET. Its writes stand in a table.
+#![tactic(auto, unfolding(crate::specs::Case::case_of, crate::specs::Case::tree_at, crate::specs::Case::trees, crate::specs::Rows::eval, crate::specs::Rows::holds, crate::specs::Case::perform, crate::specs::Choice::pick))]
+
 ghost use Rattle.std.specs.Prelude.{◌≡◌, ◌<◌, ◌≤◌, true, [], ◌∷◌};
 ghost use Rattle.rf233.specs.Case.{own_case};
 ghost use Rattle.rf233.specs.Choice.{one_of};
@@ -159,7 +161,6 @@ fn startup_write(d: Driver, k: usize) -> Outcome
 }
 
 // START_CTRL1_SET to START_CSMA_1_SEEDED: each has a row of its own.
-#[tactic(auto, unfolding(crate::specs::Case::trees, crate::specs::Case::tree_at))]
 pub fn startup_case(d: Driver, a: Arrived) -> Outcome
     requires { (4 ≤ state_no d.state) × (state_no d.state ≤ 24) }
     ensures { result ≡ own_case a d }
@@ -170,7 +171,6 @@ pub fn startup_case(d: Driver, a: Arrived) -> Outcome
 }
 
 // The other states of a startup.
-#[tactic(auto, unfolding(crate::specs::Case::case_of, crate::specs::Case::tree_at, crate::specs::Case::trees, crate::specs::Rows::eval, crate::specs::Case::perform))]
 pub fn start_case(d: Driver, a: Arrived) -> Outcome
     requires { one_of (0 ∷ 1 ∷ 2 ∷ 3 ∷ 25 ∷ 26 ∷ 28 ∷ []) (state_no d.state) ≡ true }
     ensures { result ≡ own_case a d }
@@ -201,7 +201,6 @@ pub fn start_case(d: Driver, a: Arrived) -> Outcome
 }
 
 // A radio that is on is turned off first.
-#[tactic(auto, unfolding(crate::specs::Case::case_of, crate::specs::Case::tree_at, crate::specs::Case::trees, crate::specs::Rows::eval, crate::specs::Case::perform, crate::specs::Choice::pick, crate::specs::Rows::holds))]
 fn start_status_read(d: Driver, a: Arrived) -> Outcome
     requires { state_no d.state ≡ 2 }
     ensures { result ≡ own_case a d }
@@ -215,7 +214,6 @@ fn start_status_read(d: Driver, a: Arrived) -> Outcome
 }
 
 // The interrupt pin is made ready before the first write.
-#[tactic(auto, unfolding(crate::specs::Case::case_of, crate::specs::Case::tree_at, crate::specs::Case::trees, crate::specs::Rows::eval, crate::specs::Case::perform))]
 fn start_turning_off(d: Driver, a: Arrived) -> Outcome
     requires { state_no d.state ≡ 3 }
     ensures { result ≡ own_case a d }

@@ -1,4 +1,6 @@
 // Transmission: the states from TX_STATUS_PRECHECK1 to TX_RETURN_TO_RX.
+#![tactic(auto, unfolding(crate::specs::Case::case_of, crate::specs::Case::tree_at, crate::specs::Case::trees, crate::specs::Rows::eval, crate::specs::Rows::holds, crate::specs::Case::perform, crate::specs::Choice::pick))]
+
 ghost use Rattle.std.specs.Prelude.{◌≡◌, true, [], ◌∷◌};
 ghost use Rattle.rf233.specs.Case.{own_case};
 ghost use Rattle.rf233.specs.Choice.{one_of};
@@ -19,7 +21,6 @@ use rf233_const::status::{ExternalState, external_state_number};
 use rf233_const::trx_state::{RF233TrxCmd, trac_of};
 
 // The case of each of these states that does something.
-#[tactic(auto, unfolding(crate::specs::Case::case_of, crate::specs::Case::tree_at, crate::specs::Case::trees, crate::specs::Rows::eval, crate::specs::Case::perform))]
 pub fn transmit_case(d: Driver, a: Arrived) -> Outcome
     requires { one_of (33 ∷ 35 ∷ 36 ∷ 37 ∷ 38 ∷ 39 ∷ 41 ∷ 42 ∷ 43 ∷ []) (state_no d.state) ≡ true }
     ensures { result ≡ own_case a d }
@@ -70,7 +71,6 @@ fn is_busy(status: u8) -> bool
 }
 
 // Before the frame is written: with a busy receiver the driver waits for its interrupt.
-#[tactic(auto, unfolding(crate::specs::Case::case_of, crate::specs::Case::tree_at, crate::specs::Case::trees, crate::specs::Rows::eval, crate::specs::Case::perform, crate::specs::Choice::pick, crate::specs::Rows::holds))]
 fn tx_status_precheck1(d: Driver, a: Arrived) -> Outcome
     requires { state_no d.state ≡ 33 }
     ensures { result ≡ own_case a d }
@@ -85,7 +85,6 @@ fn tx_status_precheck1(d: Driver, a: Arrived) -> Outcome
 }
 
 // After the frame is written: with a busy receiver the reception comes first.
-#[tactic(auto, unfolding(crate::specs::Case::case_of, crate::specs::Case::tree_at, crate::specs::Case::trees, crate::specs::Rows::eval, crate::specs::Case::perform, crate::specs::Choice::pick, crate::specs::Rows::holds))]
 fn tx_status_precheck2(d: Driver, a: Arrived) -> Outcome
     requires { state_no d.state ≡ 36 }
     ensures { result ≡ own_case a d }
@@ -99,7 +98,6 @@ fn tx_status_precheck2(d: Driver, a: Arrived) -> Outcome
 }
 
 // The radio is on its way to PLL_ON: asked again while it moves, told again where it went elsewhere.
-#[tactic(auto, unfolding(crate::specs::Case::case_of, crate::specs::Case::tree_at, crate::specs::Case::trees, crate::specs::Rows::eval, crate::specs::Case::perform, crate::specs::Choice::pick, crate::specs::Rows::holds))]
 fn tx_pll_wait(d: Driver, a: Arrived) -> Outcome
     requires { state_no d.state ≡ 38 }
     ensures { result ≡ own_case a d }
@@ -120,7 +118,6 @@ fn tx_pll_wait(d: Driver, a: Arrived) -> Outcome
 }
 
 // The frame was sent: its buffer goes back, to the listener or, with none, dropped.
-#[tactic(auto, unfolding(crate::specs::Case::case_of, crate::specs::Case::tree_at, crate::specs::Case::trees, crate::specs::Rows::eval, crate::specs::Case::perform, crate::specs::Choice::pick, crate::specs::Rows::holds))]
 fn tx_return_to_rx(d: Driver, a: Arrived) -> Outcome
     requires { state_no d.state ≡ 43 }
     ensures { result ≡ own_case a d }
