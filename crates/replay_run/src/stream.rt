@@ -7,7 +7,7 @@ use crate::run::{Run, first_run};
 use crate::tracing::end_trace;
 use std::io;
 use std::io::{Read, Write};
-use stdio::streams::{read_once, write_first};
+use stdio::streams::{read_once, told, write_first};
 
 // The output is written when it has grown past this: one line adds less than the rest of the buffer.
 const MUCH: usize = 32768;
@@ -161,9 +161,10 @@ fn take_part<W: Write>(
     feed(to, run, part, text, bytes, area, kept, out)
 }
 
-// Reads once, and performs what came.
+// Reads once, and performs what came. After a read that fails, of which `failed` has the error, the input is at its end.
 fn read_some<R: Read, W: Write>(
     from: &mut R,
+    failed: &mut Option<io::Error>,
     to: &mut W,
     run: Run,
     input: &mut [u8],
@@ -173,13 +174,14 @@ fn read_some<R: Read, W: Write>(
     kept: &mut [u8],
     out: &mut [u8],
 ) -> io::Result<Run> {
-    let n = read_once(from, input)?;
+    let n = read_once(from, input, failed);
     take_part(to, run, &input[..n], text, bytes, area, kept, out)
 }
 
 // Nothing says that the input ends, and a loop has to: it counts its turns down, from a number that no run uses up.
 fn read_all<R: Read, W: Write>(
     from: &mut R,
+    failed: &mut Option<io::Error>,
     to: &mut W,
     traced: bool,
     input: &mut [u8],
@@ -192,7 +194,7 @@ fn read_all<R: Read, W: Write>(
     let mut run = first_run(traced);
     let mut turns = u64::MAX;
     while 0 < turns && !run.over {
-        run = read_some(from, to, run, input, text, bytes, area, kept, out)?;
+        run = read_some(from, failed, to, run, input, text, bytes, area, kept, out)?;
         turns -= 1;
     }
     Ok(run)
@@ -204,7 +206,7 @@ fn end_run<W: Write>(to: &mut W, run: Run, out: &mut [u8]) -> io::Result<()> {
     write_first(to, out, ended.written)
 }
 
-// A whole script, from its first line to what is written last: its text, or its trace.
+// A whole script, from its first line to what is written last: its text, or its trace. The error of a read that failed comes behind it.
 pub fn run_script<R: Read, W: Write>(
     from: &mut R,
     to: &mut W,
@@ -216,6 +218,19 @@ pub fn run_script<R: Read, W: Write>(
     kept: &mut [u8],
     out: &mut [u8],
 ) -> io::Result<()> {
-    let run = read_all(from, to, traced, input, text, bytes, area, kept, out)?;
-    end_run(to, run, out)
+    let mut failed = None;
+    let run = read_all(
+        from,
+        &mut failed,
+        to,
+        traced,
+        input,
+        text,
+        bytes,
+        area,
+        kept,
+        out,
+    )?;
+    end_run(to, run, out)?;
+    told(failed)
 }

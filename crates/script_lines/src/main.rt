@@ -6,14 +6,16 @@ mod describe;
 mod stream;
 
 use std::io;
-use stdio::streams::write_first;
+use stdio::streams::{told, write_first};
 
 // Reads the input, which is shorter than the buffer, and writes a line for each of its lines.
 fn main(rt: HostRuntime) -> io::Result<()> {
     let mut input = [0u8; 65536];
     let mut bytes = [0u8; 1024];
     let mut out = [0u8; 65536];
-    let filled = stream::fill(&mut rt.stdin(), &mut input)?;
+    let mut failed = None;
+    let filled = stream::fill(&mut rt.stdin(), &mut failed, &mut input);
     let end = stream::lines(&input, filled, &mut bytes, &mut out);
-    write_first(&mut rt.stdout(), &out, end)
+    write_first(&mut rt.stdout(), &out, end)?;
+    told(failed)
 }

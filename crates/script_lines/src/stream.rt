@@ -7,17 +7,17 @@ use std::io;
 use std::io::Stdin;
 use stdio::streams::read_once;
 
-// Reads until the input is at its end, or the buffer full.
-pub fn fill(stdin: &mut Stdin, input: &mut [u8]) -> io::Result<usize> {
+// Reads until the input is at its end, or the buffer full. A read that fails is an end, and `failed` has its error.
+pub fn fill(stdin: &mut Stdin, failed: &mut Option<io::Error>, input: &mut [u8]) -> usize {
     let mut filled = 0;
     while filled < input.len() {
-        let n = read_once(stdin, &mut input[filled..])?;
+        let n = read_once(stdin, &mut input[filled..], failed);
         if n == 0 {
-            return Ok(filled);
+            return filled;
         }
         filled += n;
     }
-    Ok(filled)
+    filled
 }
 
 // How long the first line is, without its line feed.
