@@ -1,10 +1,12 @@
 -- Each call of demand 3 keeps the invariant of Custody.antt, refused or not. Assumes nothing.
-use Rattle.std.proofs.Common.{◌≡◌, ℕ, ◌+◌, Bool, true, false, not, ◌||◌, T, eqb, ltb, leb, List, [], ℤ, sym, refl, ap, subst, arith, ltb-false, le-leb, leb-false}
+use Rattle.std.proofs.Common.{◌≡◌, ℕ, ◌+◌, Bool, true, false, not, ◌||◌, T, eqb, ltb, leb, List, [], ℤ, sym, refl, ap, subst, arith}
+use Rattle.std.proofs.Common.{ltb-false, le-leb, leb-false}
 use borrow.Author.Tests.{not-false}
 use Rattle.rf233.specs.Action.{actions}
 use Rattle.rf233.specs.Answer.{answer_no, answer_of, refused}
 use Rattle.rf233.specs.Completion.{completed}
-use Rattle.rf233.specs.Config.{begin_start, start_call, begin_stop, stop_call, begin_commit, commit_call, reset_call, set_power, set_channel}
+use Rattle.rf233.specs.Config.{begin_start, start_call, begin_stop, stop_call, begin_commit, commit_call, reset_call, set_power}
+use Rattle.rf233.specs.Config.{set_channel}
 use Rattle.rf233.specs.Data.{handle_bad, tx_busy, begin_transmit, transmit_call, receive_buffer_call}
 use Rattle.rf233.specs.Described.{tx_length_bad}
 use Rattle.rf233.specs.Driver.{flag, flagged, with_state, with_buffers, with_tx, with_rx, with_tx_len}

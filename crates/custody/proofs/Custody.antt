@@ -1,6 +1,7 @@
 -- The invariant (`Inv`): the book agrees with the driver's record, the record fits the state, the lengths are within their bounds. What a
 -- starter does, and a row's access, keeps it (`access_keeps`). From the moves of Match.antt and the tests of Fit.antt. Assumes nothing.
-use Rattle.std.proofs.Common.{◌≡◌, ℕ, ◌+◌, ◌≤◌, true, false, ◌&&◌, T, eqb, leb, List, [], ◌∷◌, sym, refl, ap, ◌∙◌, subst, arith, leb→le, le-leb, leb-true}
+use Rattle.std.proofs.Common.{◌≡◌, ℕ, ◌+◌, ◌≤◌, true, false, ◌&&◌, T, eqb, leb, List, [], ◌∷◌, sym, refl, ap, ◌∙◌, subst, arith, leb→le}
+use Rattle.std.proofs.Common.{le-leb, leb-true}
 use Rattle.rf233_const.specs.Command as command
 use Rattle.rf233.specs.Case.{accessed, handed, without_tx, without_rx}
 use Rattle.rf233.specs.Choice.{pick, within}

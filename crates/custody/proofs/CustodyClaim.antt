@@ -1,6 +1,7 @@
 -- Demand 3, `Custody` of specs/Claim.antt: one claim about any list of calls on any new driver, with any pool at each call. By induction
 -- on the list, from the invariant that every call keeps. Assumes nothing.
-use Rattle.std.proofs.Common.{◌≡◌, ℕ, ◌<◌, true, not, eqb, leb, List, [], ◌∷◌, length, get_or, sym, refl, ap, ◌∙◌, arith, eqb-true, le-leb, leb-true}
+use Rattle.std.proofs.Common.{◌≡◌, ℕ, ◌<◌, true, not, eqb, leb, List, [], ◌∷◌, length, get_or, sym, refl, ap, ◌∙◌, arith, eqb-true, le-leb}
+use Rattle.std.proofs.Common.{leb-true}
 use mathlib.Core.Bool.{or-false}
 use Rattle.rf233.specs.Config.{channel_fits}
 use Rattle.custody.specs.Claim.{World, Event, next, run, new_world, only, Kept, Custody}

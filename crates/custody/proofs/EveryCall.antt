@@ -6,7 +6,8 @@ use Rattle.laws.proofs.Logic.{is_false}
 use Rattle.rf233.specs.Action.{actions}
 use Rattle.rf233.specs.Answer.{answer_no, answer_of}
 use Rattle.rf233.specs.Completion.{completed}
-use Rattle.rf233.specs.Config.{begin_start, start_call, begin_stop, stop_call, begin_commit, commit_call, reset_call, set_power, set_channel}
+use Rattle.rf233.specs.Config.{begin_start, start_call, begin_stop, stop_call, begin_commit, commit_call, reset_call, set_power}
+use Rattle.rf233.specs.Config.{set_channel}
 use Rattle.rf233.specs.Data.{begin_transmit, transmit_call, receive_buffer_call}
 use Rattle.rf233.specs.Described.{described}
 use Rattle.rf233.specs.Guard.{Called, refusing, stepping, pool_fault}

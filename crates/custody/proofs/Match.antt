@@ -1,6 +1,7 @@
 -- The driver's record and the book agree: `Match`, and each move of buffers keeps it: a transfer that begins or ends, a buffer lent or
 -- handed back. From the laws of one and of two buffers; from this alone there is no fault. Assumes nothing.
-use Rattle.std.proofs.Common.{◌≡◌, ℕ, zero, suc, ◌+◌, ◌<◌, ◌≤◌, Bool, true, false, not, ◌&&◌, ◌||◌, T, eqb, ltb, leb, [], ◌∷◌, get_or, sym, refl, ◌∙◌, arith, eqb→eq, leb→le, ltb-false, le-ltb, lt-ltb, ne_eqb, eqb-true}
+use Rattle.std.proofs.Common.{◌≡◌, ℕ, zero, suc, ◌+◌, ◌<◌, ◌≤◌, Bool, true, false, not, ◌&&◌, ◌||◌, T, eqb, ltb, leb, [], ◌∷◌, get_or, sym}
+use Rattle.std.proofs.Common.{refl, ◌∙◌, arith, eqb→eq, leb→le, ltb-false, le-ltb, lt-ltb, ne_eqb, eqb-true}
 use mathlib.Core.Bool.{and-true, and-false, or-false}
 use borrow.Author.Tests.{eqb-false}
 use Rattle.rf233.proofs.Conditions.{by_flag}

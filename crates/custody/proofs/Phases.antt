@@ -35,7 +35,8 @@ use Rattle.rf233.proofs.ChoiceLaws.{branch}
 use Rattle.rf233.proofs.EveryStep.{Kept, Ends, commits_first, every_access}
 use Rattle.rf233.proofs.Facts.{kind, is_none, of, under, settled, settled_is, prepared_is}
 use Rattle.rf233.proofs.Facts.Kind.{access}
-use Rattle.rf233.proofs.Fit.{fit, ok_shown, ok_access, ok_row, row_fits, to_46, to_60, to_handling, to_62, to_33, to_29, to_59, to_28, to_42}
+use Rattle.rf233.proofs.Fit.{fit, ok_shown, ok_access, ok_row, row_fits, to_46, to_60, to_handling, to_62, to_33, to_29, to_59, to_28}
+use Rattle.rf233.proofs.Fit.{to_42}
 use Rattle.rf233.proofs.Trees.{row_of}
 use Rattle.custody.proofs.Actions.{notes, noted_padded, fewer, hands}
 use Rattle.custody.proofs.BookLaws.{idle_is}

@@ -1,6 +1,7 @@
 -- `six_actions`: a call's reply has at most one transfer, of one of the four kinds, and at most six actions, counted. For completions from
 -- one test, computed over the rows of all states (`rows_six`); for the calls by `every_call`. Assumes nothing.
-use Rattle.std.proofs.Common.{◌≡◌, ℕ, zero, suc, ◌+◌, ◌<◌, ◌≤◌, Bool, true, ◌&&◌, T, leb, List, [], ◌∷◌, ◌++◌, map, length, get_or, take, replicate, refl, ap, arith, leb-true}
+use Rattle.std.proofs.Common.{◌≡◌, ℕ, zero, suc, ◌+◌, ◌<◌, ◌≤◌, Bool, true, ◌&&◌, T, leb, List, [], ◌∷◌, ◌++◌, map, length, get_or, take}
+use Rattle.std.proofs.Common.{replicate, refl, ap, arith, leb-true}
 use Rattle.laws.proofs.Logic.{left, right, is_true, all_below}
 use Rattle.rf233.specs.Action.{item, actions}
 use Rattle.rf233.specs.Answer.{answer_of}

@@ -1,6 +1,7 @@
 -- Document 01, "The book of custody": fed with each call's arguments, answer, actions and transfer, never with the driver's record. A
 -- fault stays once found; what is found faulty is entered all the same, so that there is nothing to choose.
-use Rattle.std.specs.Prelude.{ℕ, zero, suc, ◌+◌, Bool, true, false, cond, not, ◌&&◌, ◌||◌, List, [], ◌∷◌, ◌++◌, replicate, ◌==◌, nat_le, nat_lt, slice_index_or, slice_set}
+use Rattle.std.specs.Prelude.{ℕ, zero, suc, ◌+◌, Bool, true, false, cond, not, ◌&&◌, ◌||◌, List, [], ◌∷◌, ◌++◌, replicate, ◌==◌, nat_le}
+use Rattle.std.specs.Prelude.{nat_lt, slice_index_or, slice_set}
 use Rattle.rf233.specs.Answer.{answer_no}
 use Rattle.rf233.specs.Record.{one}
 use Rattle.rf233.specs.Place.{client_place, own_place, transmit_place, receive_place, transfer_place}

@@ -7,7 +7,8 @@ use Rattle.rf233.specs.Choice.{one_of}
 use Rattle.rf233.specs.Step.{quiet}
 use Rattle.custody.specs.Book.{Page, Fed, new_page, entered}
 use Rattle.custody.specs.Book.Fed.{lends_transmit, lends_receive, completes, other}
-use Rattle.rf233.specs.Config.{start_call, stop_call, commit_call, reset_call, set_address, set_address_long, set_pan, set_power, set_channel}
+use Rattle.rf233.specs.Config.{start_call, stop_call, commit_call, reset_call, set_address, set_address_long, set_pan, set_power}
+use Rattle.rf233.specs.Config.{set_channel}
 use Rattle.rf233.specs.Kernel.{fired_call, completion_call}
 use Rattle.rf233.specs.Data.{transmit_call, receive_buffer_call}
 use Rattle.rf233.specs.Listeners.{set_client}

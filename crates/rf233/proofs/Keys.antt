@@ -105,7 +105,8 @@ abbrev pub rest : (ℕ → Bool) → List ℕ
 rest named = without named (range 0 69)
 
 -- in a `_` arm the state is none of those that the other arms name
-pub elsewhere : (l : List ℕ) (s : InternalState) → T (every (one_of l) false (rest (one_of l))) → OneOf (rest (one_of l)) (tag_of the_type s)
+pub elsewhere : (l : List ℕ) (s : InternalState) → T (every (one_of l) false (rest (one_of l)))
+    → OneOf (rest (one_of l)) (tag_of the_type s)
     → one_of l (state_no s) ≡ false
 elsewhere l = at_state (one_of l) false (rest (one_of l))
 

@@ -113,7 +113,8 @@ pub record ReadsOut (n b l : ℕ) (c : Called) : Type 0 where
 -- is read
 abbrev pub ReadOut : ℕ → Type 0
 ReadOut n =
-    (d : Driver) (xs p : List ℕ) (b l : ℕ) → Completes (FrameRead b l) 63 d xs p → get_or xs 1 0 ≡ n → ReadsOut n b l (completion_call d xs p)
+    (d : Driver) (xs p : List ℕ) (b l : ℕ) → Completes (FrameRead b l) 63 d xs p → get_or xs 1 0 ≡ n
+    → ReadsOut n b l (completion_call d xs p)
 
 abbrev pub NotReadOut : ℕ → Type 0
 NotReadOut n =

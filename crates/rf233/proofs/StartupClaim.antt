@@ -162,7 +162,8 @@ unfolding stage staged completed ready_bookkeeping pending_interrupt handle_inte
 leads_pending l c a = refl
 
 -- the read that shows bit 0 and not bit 2 leads on to READY's write, whatever bit 3 is
-leads_reading : (l c : ℕ) (a : Arrived) → pll_lock a ≡ true → rx_start a ≡ false → (completed a (stage l c reading)).driver ≡ stage l c (at 29)
+leads_reading : (l c : ℕ) (a : Arrived) → pll_lock a ≡ true → rx_start a ≡ false
+    → (completed a (stage l c reading)).driver ≡ stage l c (at 29)
 unfolding stage staged states advance completed ready_bookkeeping pending_interrupt waiting_commit frame_done case_of perform eval trees
     tree_at register_transfer pick interrupt_result interrupt_state frame_end
 leads_reading l c a lock start = go (trx_end a) refl

@@ -27,7 +27,8 @@ listed f lo (suc len) zero d h = ap f (omega arith)
 listed f lo (suc len) (suc k) d h = listed f (suc lo) len k d (omega arith) ∙ ap f (omega arith)
 
 -- so two functions that agree on that list agree at each n among the numbers
-pub in_range_lem : {A : Type 0} (f g : ℕ → A) (lo len n : ℕ) → map f (range lo len) ≡ map g (range lo len) → lo ≤ n → n < lo + len → f n ≡ g n
+pub in_range_lem : {A : Type 0} (f g : ℕ → A) (lo len n : ℕ) → map f (range lo len) ≡ map g (range lo len) → lo ≤ n → n < lo + len
+    → f n ≡ g n
 in_range_lem f g lo len n h p q =
     let k : ℕ = n - lo in
     let e : lo + k ≡ n = omega arith in

@@ -15,8 +15,8 @@ use Rattle.rf233.specs.declared.driver.Under.{Under}
 
 -- the Rust's cells of a bool, in the order of `Flags`
 pub data Flag : Type 0 where
-  radio_on transmitting receiving crc_valid interrupt_handling interrupt_pending config_pending sleep_pending wake_pending power_client_pending :
-      Flag
+  radio_on transmitting receiving crc_valid interrupt_handling interrupt_pending : Flag
+  config_pending sleep_pending wake_pending power_client_pending : Flag
 
 -- the flags of these values, in that order
 abbrev pub flags_of : Bool → Bool → Bool → Bool → Bool → Bool → Bool → Bool → Bool → Bool → Flags
@@ -67,9 +67,9 @@ after x v f y = cond (eqb (flag_no x) (flag_no y)) v (flag y f)
 -- the flags with x set to v
 abbrev pub set_flag : Flag → Bool → Flags → Flags
 set_flag x v f =
-    flags_of (after x v f radio_on) (after x v f transmitting) (after x v f receiving) (after x v f crc_valid) (after x v f interrupt_handling)
-    (after x v f interrupt_pending) (after x v f config_pending) (after x v f sleep_pending) (after x v f wake_pending)
-    (after x v f power_client_pending)
+    flags_of (after x v f radio_on) (after x v f transmitting) (after x v f receiving) (after x v f crc_valid)
+    (after x v f interrupt_handling) (after x v f interrupt_pending) (after x v f config_pending) (after x v f sleep_pending)
+    (after x v f wake_pending) (after x v f power_client_pending)
 
 -- an assignment of a flag: its new value; `put_crc`: crc_valid becomes what the byte read from PHY_RSSI says
 pub data Assignment : Type 0 where

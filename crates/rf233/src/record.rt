@@ -1,6 +1,17 @@
 // The driver's record of its buffers: what a place has, and where a buffer is.
 ghost use Rattle.std.specs.Prelude.{◌≡◌, ◌≤◌};
-ghost use Rattle.rf233.specs.Record.{buffer_in, count_of, is_held, one, own_has, record_has, rx_under_way, slot_has, tx_under_way, under_has};
+ghost use Rattle.rf233.specs.Record.{
+  buffer_in,
+  count_of,
+  is_held,
+  one,
+  own_has,
+  record_has,
+  rx_under_way,
+  slot_has,
+  tx_under_way,
+  under_has,
+};
 
 use crate::driver::{Buffers, Slot, Under};
 

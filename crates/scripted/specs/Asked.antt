@@ -36,7 +36,8 @@ pub data Asked : Type 0 where
 
 -- the first eight bytes; where there are fewer, 0 stands for the byte
 abbrev pub eight_of : List ℕ → List ℕ
-eight_of xs = get_or xs 0 0 ∷ get_or xs 1 0 ∷ get_or xs 2 0 ∷ get_or xs 3 0 ∷ get_or xs 4 0 ∷ get_or xs 5 0 ∷ get_or xs 6 0 ∷ get_or xs 7 0 ∷ []
+eight_of xs =
+    get_or xs 0 0 ∷ get_or xs 1 0 ∷ get_or xs 2 0 ∷ get_or xs 3 0 ∷ get_or xs 4 0 ∷ get_or xs 5 0 ∷ get_or xs 6 0 ∷ get_or xs 7 0 ∷ []
 
 -- what a line asks for, where the bytes that it names stand first among xs. A completion brings as many of them as the line counts; all,
 -- where there are fewer

@@ -1,5 +1,5 @@
--- `read_write_done` meets its contract: where 12 does not describe the driver, and the count is right, the arrived bytes fit the buffer that
--- is read into. Assumes nothing.
+-- `read_write_done` meets its contract: where 12 does not describe the driver, and the count is right, the arrived bytes fit the buffer
+-- that is read into. Assumes nothing.
 use Rattle.std.proofs.Common.{length, arith}
 use borrow.Author.Tests.{ltb-false}
 use lib.Dec.{ltb}

@@ -1,5 +1,5 @@
--- The loop of `byte_words`: the words that are left say bytes where all do, they are as many fewer as bytes were laid, and laying theirs too
--- leaves what laying all does. Each word ends past the one before it, so less of the line is left. Assumes nothing.
+-- The loop of `byte_words`: the words that are left say bytes where all do, they are as many fewer as bytes were laid, and laying theirs
+-- too leaves what laying all does. Each word ends past the one before it, so less of the line is left. Assumes nothing.
 use Rattle.std.proofs.Common.{◌≡◌, ◌≤◌, ◌+◌, ◌-◌, length}
 use Rattle.std.proofs.lemmas.List.Edits.{sets}
 use Rattle.script.specs.Words.{words_from}
