@@ -3,15 +3,17 @@
 -- Assumes nothing.
 use mathlib.Core.Path.{◌≡◌, refl, sym, ap, ap₂, ◌∙◌, subst}
 use mathlib.Core.List.{List, [], ◌∷◌, ◌++◌}
-use Prim.Native.Nat.{ℕ, zero, suc, ◌+◌, ◌*◌, ◌/◌, ◌%◌, ◌^◌, ◌<◌, ◌≤◌}
-use native.Mathlib.Nat.{mod-lt, pow-suc}
-use native.Mathlib.Numerals.{add-one}
+use Prim.Native.Nat.{ℕ, zero, suc, ◌*◌, ◌/◌, ◌%◌, ◌^◌, ◌<◌}
+use native.Mathlib.Nat.{mod-lt, pow-suc, zero-mul}
 use native.Mathlib.Omega.{arith}
 use lib.Arith.{lt-one}
 use lib.Pow.{pow_pos}
 use lib.Bits.{differ}
-use lib.ListN.{length, get_or, take, drop, drop_of_length-le}
-use lib.Seq.{take-suc, drop-cons}
+use lib.ListN.{length, get_or, take, drop}
+use lib.Seq.{take-suc}
+use Rattle.std.proofs.lemmas.List.{drop-drop, take-append-drop}
+use Rattle.std.specs.List.{fold}
+use Rattle.std.specs.Simd.{first_chunks}
 use Rattle.fcs.specs.Fcs.{generator, bit_step, bit_steps, byte_step, fcs_from, fcs_of}
 use Rattle.fcs.specs.Word.{reduced}
 use Rattle.fcs.proofs.Xor.{differ_lt, low_odd, low_half, ◌⊕◌, ⊕_assoc, ⊕_comm, ⊕_zero, ⊕_lt}
@@ -87,18 +89,25 @@ pub fcs_append : (xs ys : List ℕ) → fcs_of (xs ++ ys) ≡ fcs_from (fcs_of x
 unfolding fcs_of
 fcs_append xs ys = fcs_from_append 0 xs ys
 
+-- the bytes behind one another: a byte a time, or n bytes a time and then what is left
+pub from_is_fold : (r : ℕ) (bs : List ℕ) → fcs_from r bs ≡ fold byte_step r bs
+unfolding fcs_from
+from_is_fold r [] = refl
+from_is_fold r (b ∷ bs) = from_is_fold (byte_step r b) bs
+
+pub from_chunks : (n k r : ℕ) (bs : List ℕ) → fcs_from (fold fcs_from r (first_chunks n k bs)) (drop (k * n) bs) ≡ fcs_from r bs
+unfolding fcs_from
+from_chunks n zero r bs = ap (λ (m : ℕ). fcs_from r (drop m bs)) (zero-mul n)
+from_chunks n (suc k) r bs =
+    let s : ℕ = fcs_from r (take n bs) in
+    ap (fcs_from (fold fcs_from s (first_chunks n k (drop n bs))))
+    (ap (λ (m : ℕ). drop m bs) (omega arith) ∙ sym (drop-drop (k * n) n bs))
+    ∙ from_chunks n k s (drop n bs)
+    ∙ sym (fcs_from_append r (take n bs) (drop n bs))
+    ∙ ap (fcs_from r) (take-append-drop n bs)
+
 -- one byte more
-pub fcs_more : (bs : List ℕ) (i : ℕ) → i < length bs → fcs_of (take (i + 1) bs) ≡ byte_step (fcs_of (take i bs)) (get_or bs i 0)
+pub from_more : (r : ℕ) (bs : List ℕ) (i : ℕ) → i < length bs
+    → fcs_from r (take (suc i) bs) ≡ byte_step (fcs_from r (take i bs)) (get_or bs i 0)
 unfolding fcs_from
-fcs_more bs i h =
-    ap (λ (n : ℕ). fcs_of (take n bs)) (add-one i) ∙ ap fcs_of (take-suc bs i 0 h) ∙ fcs_append (take i bs) (get_or bs i 0 ∷ [])
-
--- the next byte, and the end of the list
-pub from_next : (r : ℕ) (bs : List ℕ) (at : ℕ) → at < length bs
-    → fcs_from r (drop at bs) ≡ fcs_from (byte_step r (get_or bs at 0)) (drop (at + 1) bs)
-unfolding fcs_from
-from_next r bs at h = ap (fcs_from r) (drop-cons bs at 0 h ∙ ap (λ (n : ℕ). get_or bs at 0 ∷ drop n bs) (sym (add-one at)))
-
-pub from_end : (r : ℕ) (bs : List ℕ) (at : ℕ) → length bs ≤ at → fcs_from r (drop at bs) ≡ r
-unfolding fcs_from
-from_end r bs at h = ap (fcs_from r) (drop_of_length-le bs h)
+from_more r bs i h = ap (fcs_from r) (take-suc bs i 0 h) ∙ fcs_from_append r (take i bs) (get_or bs i 0 ∷ [])

@@ -4,4 +4,3 @@
 mod block;
 pub mod fcs;
 mod reduce;
-mod word;

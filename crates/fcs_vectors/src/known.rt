@@ -7,15 +7,11 @@ use std::io;
 pub fn line(rt: &impl Print, name: &str, bytes: &[u8], expected: u16) -> io::Result<()> {
     let got = fcs(bytes);
     let second = bitwise::check(bytes);
-    print!(rt; "{name}: expected {expected:04x}, fcs {got:04x}, bit by bit {second:04x}")?;
-    verdict(rt, got == expected && second == expected)
+    let said = verdict(got == expected && second == expected);
+    println!(rt; "{name}: expected {expected:04x}, fcs {got:04x}, bit by bit {second:04x}: {said}")
 }
 
 // The end of a line.
-pub fn verdict(rt: &impl Print, same: bool) -> io::Result<()> {
-    if same {
-        println!(rt; ": same")
-    } else {
-        println!(rt; ": DIFFERENT")
-    }
+pub fn verdict(same: bool) -> &'static str {
+    if same { "same" } else { "DIFFERENT" }
 }

@@ -1,5 +1,7 @@
 -- General laws of Booleans: of tests that are joined, of tests that are grouped otherwise, and of a test that is computed over all
 -- Booleans or all numbers below n.
+-- The library's laws of `&&` and `||` as equations (`Rattle.std.proofs.lemmas.Bool`) give both halves as a pair; those here cite them and
+-- name one half. Of `T` and of a test over all numbers below n it offers none.
 -- Assumes nothing.
 use Prim.Native.Nat.{ℕ, zero, suc, ◌<◌}
 use mathlib.Core.Path.{◌≡◌, refl, sym, subst}
@@ -8,6 +10,7 @@ use native.Mathlib.Omega.{arith}
 use native.Mathlib.Nat.{not-suc-le-zero}
 use lib.Dec.{T, eqb}
 use borrow.Author.Tests.{eqb-true, eqb-false}
+use Rattle.std.proofs.lemmas.Bool.{and_parts, or_parts, both_ways as never_both}
 
 -- both tests pass: the first, the second, and both again
 pub left : (a b : Bool) → T (a && b) → T a
@@ -24,13 +27,10 @@ pair false b s t = s
 
 -- the same as equations
 pub both_left : (a b : Bool) → a && b ≡ true → a ≡ true
-both_left true b e = refl
-both_left false b e = e
+both_left a b e = (and_parts a b e).0
 
 pub both_right : (a b : Bool) → a && b ≡ true → b ≡ true
-both_right true b e = e
-both_right false true e = refl
-both_right false false e = e
+both_right a b e = (and_parts a b e).1
 
 -- one of two tests passes
 pub or_left : (a b : Bool) → T a → T (a || b)
@@ -61,13 +61,10 @@ nor_right false b t = t
 
 -- the same as equations
 pub none_left : (a b : Bool) → a || b ≡ false → a ≡ false
-none_left true b e = e
-none_left false b e = refl
+none_left a b e = (or_parts a b e).0
 
 pub none_right : (a b : Bool) → a || b ≡ false → b ≡ false
-none_right true true e = e
-none_right true false e = refl
-none_right false b e = e
+none_right a b e = (or_parts a b e).1
 
 -- a test and what it is equal to
 pub is_true : (a : Bool) → T a → a ≡ true
@@ -86,8 +83,7 @@ is_value false false t = refl
 
 -- true is not false
 pub clash {ℓ} : {A : Type ℓ} (b : Bool) → b ≡ false → b ≡ true → A
-clash true e f = absurd (subst T e tt)
-clash false e f = absurd (subst T (sym f) tt)
+clash b e f = absurd (never_both b e f)
 
 -- tests that follow from each other are equal
 pub both_ways : (a b : Bool) → (T a → T b) → (T b → T a) → a ≡ b
@@ -108,10 +104,6 @@ imp false b = true
 pub apply : (a b : Bool) → T (imp a b) → T a → T b
 apply true b i t = i
 apply false b i t = absurd t
-
-pub applied : (a b : Bool) → (T a → T b) → T (imp a b)
-applied true b f = f tt
-applied false b f = tt
 
 -- a test over both Booleans
 abbrev pub all : (Bool → Bool) → Bool

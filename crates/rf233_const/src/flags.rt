@@ -69,7 +69,8 @@ pub const TRX_TRAC_SUCCESS_DATA_PENDING: u8 = 1 << 5;
 // The frame was not sent, because the channel was busy at every attempt.
 pub const TRX_TRAC_CHANNEL_ACCESS_FAILURE: u8 = 3 << 5;
 
-// Every flag above, so that one promise speaks of them all.
+// Every flag above, so that one promise speaks of them all. A constant has no clause of its own, and a `const _: () = prove!(..)` compares
+// it with code alone: only a clause reaches the datasheet's definitions in specs/.
 #[derive(Clone, Copy)]
 pub struct RegisterFlags {
     pub trx_ctrl_1_dig34_rxtx_indicator: u8,

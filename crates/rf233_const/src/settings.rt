@@ -46,7 +46,7 @@ pub const CSMA_SEED_1: u8 = AACK_FVN_MODE;
 // Every mode of reduced power consumption is on.
 pub const TRX_RPC: u8 = 0xFF;
 
-// Default address settings.
+// Default address settings. A constant a byte, under the names of the Rust; `default_addresses` has each address as an array.
 pub const PAN_ID_0: u8 = 0x22;
 
 // The high byte of the default PAN.
@@ -82,7 +82,7 @@ pub const SHORT_ADDR_0: u8 = 0x11;
 // The high byte of the default short address.
 pub const SHORT_ADDR_1: u8 = 0x22;
 
-// The value of each register that is set to a constant at startup, or has a default.
+// The value of each register that is set to a constant at startup, or has a default: as `RegisterFlags`, for a promise that names each.
 #[derive(Clone, Copy)]
 pub struct StartupValues {
     pub trx_ctrl_1: u8,

@@ -3,44 +3,32 @@ ghost use Rattle.std.specs.Prelude.{◌≡◌};
 ghost use Rattle.rf233_const.specs.Status.{status_value, chip_status};
 
 // The values of the radio's state.
-#[derive(Clone, Copy)]
+#[derive(Clone, Copy, PartialEq, Eq)]
 pub enum ExternalState {
-    ON,
-    BUSY_RX,
-    BUSY_TX,
-    RX_ON,
-    TRX_OFF,
-    PLL_ON,
-    SLEEP,
-    PREP_DEEP_SLEEP,
-    BUSY_RX_AACK,
-    BUSY_TX_ARET,
-    RX_AACK_ON,
-    TX_ARET_ON,
-    STATE_TRANSITION_IN_PROGRESS,
+    ON = 0x00,
+    BUSY_RX = 0x01,
+    BUSY_TX = 0x02,
+    RX_ON = 0x06,
+    TRX_OFF = 0x08,
+    PLL_ON = 0x09,
+    SLEEP = 0x0F,
+    PREP_DEEP_SLEEP = 0x10,
+    BUSY_RX_AACK = 0x11,
+    BUSY_TX_ARET = 0x12,
+    RX_AACK_ON = 0x16,
+    TX_ARET_ON = 0x19,
+    STATE_TRANSITION_IN_PROGRESS = 0x1F,
 }
 
 // The bits of a status byte that hold the state.
 pub const TRX_STATUS_MASK: u8 = 0x1F;
 
 // The value that TRX_STATUS has in the state.
-pub fn external_state_number(state: ExternalState) -> u8
-    ensures { result ≡ status_value state }
-{
-    match state {
-        ExternalState::ON => 0x00,
-        ExternalState::BUSY_RX => 0x01,
-        ExternalState::BUSY_TX => 0x02,
-        ExternalState::RX_ON => 0x06,
-        ExternalState::TRX_OFF => 0x08,
-        ExternalState::PLL_ON => 0x09,
-        ExternalState::SLEEP => 0x0F,
-        ExternalState::PREP_DEEP_SLEEP => 0x10,
-        ExternalState::BUSY_RX_AACK => 0x11,
-        ExternalState::BUSY_TX_ARET => 0x12,
-        ExternalState::RX_AACK_ON => 0x16,
-        ExternalState::TX_ARET_ON => 0x19,
-        ExternalState::STATE_TRANSITION_IN_PROGRESS => 0x1F,
+impl From<ExternalState> for u8 {
+    ghost from_gives = { λ state n. n ≡ status_value state };
+
+    fn from(state: ExternalState) -> u8 {
+        state as u8
     }
 }
 

@@ -5,27 +5,22 @@ ghost use Rattle.rf233_const.specs.TrxState.{command_value, trac_bits};
 use crate::flags::TRX_TRAC_MASK;
 
 // Some of the values written in TRX_STATE to change the radio's state.
-#[derive(Clone, Copy)]
+#[derive(Clone, Copy, PartialEq, Eq)]
 pub enum RF233TrxCmd {
-    TX_START,
-    RX_ON,
-    OFF,
-    PLL_ON,
-    RX_AACK_ON,
-    TX_ARET_ON,
+    TX_START = 0x02,
+    RX_ON = 0x06,
+    OFF = 0x08,
+    PLL_ON = 0x09,
+    RX_AACK_ON = 0x16,
+    TX_ARET_ON = 0x19,
 }
 
 // The value of each command.
-pub fn trx_cmd_number(command: RF233TrxCmd) -> u8
-    ensures { result ≡ command_value command }
-{
-    match command {
-        RF233TrxCmd::TX_START => 0x02,
-        RF233TrxCmd::RX_ON => 0x06,
-        RF233TrxCmd::OFF => 0x08,
-        RF233TrxCmd::PLL_ON => 0x09,
-        RF233TrxCmd::RX_AACK_ON => 0x16,
-        RF233TrxCmd::TX_ARET_ON => 0x19,
+impl From<RF233TrxCmd> for u8 {
+    ghost from_gives = { λ command n. n ≡ command_value command };
+
+    fn from(command: RF233TrxCmd) -> u8 {
+        command as u8
     }
 }
 

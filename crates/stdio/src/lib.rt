@@ -1,4 +1,7 @@
-// Standard input and output of the programs: one read, and the first bytes of a buffer written.
+// What the programs do with their arguments and their standard input.
 #![tactic(auto)]
 
+pub mod arguments;
 pub mod streams;
+#[cfg(test)]
+mod tests;

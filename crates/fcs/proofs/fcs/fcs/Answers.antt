@@ -1,17 +1,32 @@
--- `fcs::fcs::fcs` meets its contract: the word that `words` leaves stands for the register after the bytes that are done, and `rest`
--- goes on from there.
+-- `fcs::fcs::fcs` meets its contract: after the blocks, and then after the words, the register is that after the bytes in them.
 -- Assumes nothing.
-use Rattle.std.proofs.Common.{ℕ, sym, ap, ◌∙◌, take, drop, take-append-drop}
-use Rattle.fcs.specs.Fcs.{fcs_from, fcs_of}
-use Rattle.fcs.proofs.Register.{fcs_append}
+use Rattle.std.proofs.Common.{rules, ◌≡◌, ℕ, ◌/◌, length, refl, sym, ap, ◌∙◌}
+use Rattle.std.specs.List.{fold}
+use Rattle.std.proofs.lemmas.Fn.{fold_over, slice_gives, fronts}
+use Rattle.fcs.specs.Fcs.{byte_step, fcs_from, fcs_of}
+use Rattle.fcs.specs.Word.{reduced, four}
+use Rattle.fcs.proofs.Bytes.{no_bytes, part_more, then_rest}
+use Rattle.fcs.proofs.Register.{from_is_fold}
 use Rattle.fcs.proofs.fcs.fcs.Goals as goal
 
 pub returns : goal.returns
+unfolding fcs_of
 returns c =
-    let done = c.words-done in
     let bytes = c.args.bytes.now in
-    let at = done.result.at in
-    c.rest.ensures
-    ∙ ap (λ (r : ℕ). fcs_from r (drop at bytes)) (c.register.ensures ∙ done.ensures.held)
-    ∙ sym (fcs_append (take at bytes) (drop at bytes))
-    ∙ ap fcs_of (take-append-drop at bytes)
+    let tail = c.as_chunks.result.1.now in
+    let s = c.fold-block.result in
+    let blocks : four s.a s.b s.c s.d ≡ fold fcs_from 0 c.iter.result.rest.now =
+    fold_over fronts (λ y. y.now) _ (λ ys s. four s.a s.b s.c s.d ≡ fold fcs_from 0 ys) _
+    (λ ys a x b q j k. let e = part_more 0 (four a.a a.b a.c a.d) (four b.a b.b b.c b.d) ys x.now j in search rules)
+    _ _ _ _ (slice_gives c.iter.result) no_bytes c.fold-block.ensures.ran in
+    let words : reduced 64 c.fold-word.result ≡ fold fcs_from (reduced 64 c.one_word.result) c.iter-2.result.rest.now =
+    fold_over fronts (λ y. y.now) _ (λ ys y. reduced 64 y ≡ fold fcs_from (reduced 64 c.one_word.result) ys) _
+    (λ ys a x b q j k. let e = part_more (reduced 64 c.one_word.result) (reduced 64 a) (reduced 64 b) ys x.now j in search rules)
+    _ _ _ _ (slice_gives c.iter-2.result) refl c.fold-word.ensures.ran in
+    let last : c.fold.result ≡ fold byte_step c.register.result c.iter-3.result.rest.now = search rules in
+    last
+    ∙ sym (from_is_fold c.register.result c.iter-3.result.rest.now)
+    ∙ ap (λ (r : ℕ). fcs_from r c.iter-3.result.rest.now) c.register.ensures
+    ∙ then_rest 8 (length tail / 8) _ _ tail words (c.iter-2.ensures.rest ∙ c.as_chunks-2.ensures.front) (c.iter-3.ensures.rest ∙ c.as_chunks-2.ensures.back)
+    ∙ ap (λ (r : ℕ). fcs_from r tail) c.one_word.ensures
+    ∙ then_rest 32 (length bytes / 32) 0 _ bytes blocks (c.iter.ensures.rest ∙ c.as_chunks.ensures.front) c.as_chunks.ensures.back

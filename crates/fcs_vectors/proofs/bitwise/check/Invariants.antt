@@ -1,7 +1,0 @@
--- `check` is safe and ends: less of the list is left at each turn.
--- Assumes nothing.
-use Rattle.std.proofs.Common.{◌-◌, length}
-use Rattle.fcs_vectors.proofs.bitwise.check.Given as goal
-
-abbrev pub decreases-loop-i : goal.decreases-loop-i
-decreases-loop-i l = length l.bytes - l.i
