@@ -20,7 +20,7 @@ use Rattle.rf233.specs.Completion.{
 use Rattle.rf233.specs.Driver.{flag, with_flags, with_state}
 use Rattle.rf233.specs.Driver.Flag.{transmitting, interrupt_handling}
 use Rattle.rf233.specs.Interrupt.{handle_interrupt, interrupt_state}
-use Rattle.rf233.specs.Record.{is_held}
+use Rattle.std.specs.Prelude.{Option, is_some}
 use Rattle.rf233.specs.Rows.{Access}
 use Rattle.rf233.specs.Rows.Access.{none, reads, writes, reads_length, reads_frame, writes_frame}
 use Rattle.rf233.specs.Step.{done_step, transition_read, transition_write}
@@ -49,7 +49,7 @@ pub record Kept (G : Driver → Type 0) : Type 0 where
       → flag interrupt_handling f ≡ flag interrupt_handling d.flags
       → G d → G (with_flags f d)
   pub moves : (a : Arrived) (d : Driver) → G d → G (with_state (interrupt_state a d.state) d)
-  pub reads : (d : Driver) → T (is_held d.buffers.rx_buf) → G d → G (with_state RX_START_READING d)
+  pub reads : (d : Driver) → T (is_some d.buffers.rx_buf) → G d → G (with_state RX_START_READING d)
 
 -- the first write of a commit
 abbrev pub commits_first : Driver → Outcome
@@ -95,8 +95,8 @@ module _ (P : Outcome → Type 0) (G : Driver → Type 0) (kept : Kept G) (ends 
 
 -- what holds of every step that shows nothing, and of a step that falls on into one of which it holds
 pub record OfSteps (P : Outcome → Type 0) : Type 0 where
-  pub silent : (d : Driver) (t : Transfer) → P (done_step d t (actions []))
-  pub falls : (t : Transfer) (next : Outcome) → P next → P (done_step next.driver t next.reply.actions)
+  pub silent : (d : Driver) (t : Option Transfer) → P (done_step d t (actions []))
+  pub falls : (t : Option Transfer) (next : Outcome) → P next → P (done_step next.driver t next.reply.actions)
 
 -- the state that a waiting commit leads to
 commit_state : (d : Driver) → (commits_first d).driver.state ≡ CONFIG_SHORT0_SET
@@ -127,7 +127,7 @@ module _ (P : Outcome → Type 0) (of : OfSteps P) where
       (silent_ends (λ e. Unit {0}) (λ e q. tt) (λ b e g. case b e)) a d tt
 
 -- what holds of every step with these actions holds of every access
-pub every_access : (P : Outcome → Type 0) (a : Arrived) (l : Actions) (d : Driver) → ((e : Driver) (t : Transfer) → P (done_step e t l))
+pub every_access : (P : Outcome → Type 0) (a : Arrived) (l : Actions) (d : Driver) → ((e : Driver) (t : Option Transfer) → P (done_step e t l))
     → (x : Access) → P (accessed x a l d)
 every_access P a l d s none = s _ _
 every_access P a l d s (reads r) = s _ _

@@ -14,7 +14,7 @@ use Rattle.rf233.specs.Described.{frame_no}
 use Rattle.rf233.specs.Driver.{Flag, Assignment, flag_no, flag, set_flag, assigning, with_flags, with_buffers}
 use Rattle.rf233.specs.Driver.Assignment.{put, put_crc}
 use Rattle.rf233.specs.Driver.Flag.{transmitting, interrupt_handling, crc_valid}
-use Rattle.rf233.specs.Record.{is_held}
+use Rattle.std.specs.Prelude.{is_some}
 use Rattle.rf233.specs.Rows.{Shown, Next}
 use Rattle.rf233.specs.Rows.Next.{same, to}
 use Rattle.rf233.specs.Rows.Shown.{plain, power_changed, config_done, sent_back, dropped_back, received_back}
@@ -32,8 +32,8 @@ pub data Kind : Type 0 where
 abbrev pub kind : Under → Kind
 kind Idle = nothing
 kind Register = access
-kind (FrameRead c l) = reading
-kind (FrameWrite c l) = writing
+kind (FrameRead x) = reading
+kind (FrameWrite x) = writing
 
 abbrev pub is_none : Kind → Bool
 is_none nothing = true
@@ -51,8 +51,8 @@ frame_of writing = 2
 pub frame_no_lem : (u : Under) → frame_no u ≡ frame_of (kind u)
 frame_no_lem Idle = refl
 frame_no_lem Register = refl
-frame_no_lem (FrameRead c l) = refl
-frame_no_lem (FrameWrite c l) = refl
+frame_no_lem (FrameRead x) = refl
+frame_no_lem (FrameWrite x) = refl
 
 -- the control facts: the kind of transfer under way, the state's number, whether the transmit and the receive place are full, whether the
 -- driver is transmitting and whether it handles an interrupt
@@ -71,7 +71,7 @@ facts k n t r s h = record { transfer = k; state = n; tx = t; rx = r; sends = s;
 -- the facts of a driver
 abbrev pub of : Driver → Facts
 of d =
-    facts (kind d.buffers.under) (state_no d.state) (is_held d.buffers.tx_buf) (is_held d.buffers.rx_buf)
+    facts (kind d.buffers.under) (state_no d.state) (is_some d.buffers.tx_buf) (is_some d.buffers.rx_buf)
     (flag transmitting d.flags) (flag interrupt_handling d.flags)
 
 -- the same with another transfer, in another state, with other places, with other flags
@@ -171,14 +171,14 @@ back c =
 -- the record's part of it
 record Returned (u : Under) (b c : Buffers) : Type 0 where
   idle : kind c.under ≡ nothing
-  tx : is_held c.tx_buf ≡ eqb (frame_of (kind u)) 2 || is_held b.tx_buf
-  rx : is_held c.rx_buf ≡ eqb (frame_of (kind u)) 1 || is_held b.rx_buf
+  tx : is_some c.tx_buf ≡ eqb (frame_of (kind u)) 2 || is_some b.tx_buf
+  rx : is_some c.rx_buf ≡ eqb (frame_of (kind u)) 1 || is_some b.rx_buf
 
 returned : (u : Under) (b : Buffers) → b.under ≡ u → Returned u b (buffers_back u b)
 returned Idle b e = record { idle = ap kind e; tx = refl; rx = refl }
 returned Register b e = record { idle = refl; tx = refl; rx = refl }
-returned (FrameRead c l) b e = record { idle = refl; tx = refl; rx = refl }
-returned (FrameWrite c l) b e = record { idle = refl; tx = refl; rx = refl }
+returned (FrameRead x) b e = record { idle = refl; tx = refl; rx = refl }
+returned (FrameWrite x) b e = record { idle = refl; tx = refl; rx = refl }
 
 pub over_is : (d : Driver) → of (transfer_over d) ≡ back (of d)
 over_is d =

@@ -1,6 +1,6 @@
 -- Where the Rust says `unwrap`, the place is full: `unwrap_holds`. Of a driver value that refusal 12 does not describe, whatever it is, a
 -- completion carries a row out only where each place that the row takes a buffer from is full, so that no notice names the 0 of
--- `buffer_in Empty`, and no frame transfer lacks its buffer. From one test over the rows of all states (`rows_take`), and one over states
+-- `buffer_in None`, and no frame transfer lacks its buffer. From one test over the rows of all states (`rows_take`), and one over states
 -- and kinds of transfer for the return of the buffers (`return_keeps`). Assumes nothing.
 use Prim.Native.Nat.{ℕ}
 use mathlib.Core.Path.{◌≡◌, sym, subst}
@@ -35,7 +35,7 @@ use Rattle.rf233.specs.Described.{
   described,
 }
 use Rattle.rf233.specs.Interrupt.{interrupt_state}
-use Rattle.rf233.specs.Record.{is_held}
+use Rattle.std.specs.Prelude.{is_some}
 use Rattle.rf233.specs.Rows.{Access, Shown, Row}
 use Rattle.rf233.specs.Rows.Access.{none, reads, writes, reads_length, reads_frame, writes_frame}
 use Rattle.rf233.specs.Rows.Row.{does}
@@ -113,8 +113,8 @@ rows_take = tt
 
 -- each place that the row takes a buffer from is full
 pub record Full (x : Row) (d : Driver) : Type 0 where
-  pub transmit : T (takes_tx x) → T (is_held d.buffers.tx_buf)
-  pub receive : T (takes_rx x) → T (is_held d.buffers.rx_buf)
+  pub transmit : T (takes_tx x) → T (is_some d.buffers.tx_buf)
+  pub receive : T (takes_rx x) → T (is_some d.buffers.rx_buf)
 
 -- no buffer is missing where the state takes one
 abbrev missing : ℕ → Bool → Bool → Bool
@@ -133,8 +133,8 @@ full : (a : Arrived) (d : Driver) → Holds d → Full (row_of a d) d
 full a d h =
     let n = state_no d.state in
     let x = row_of a d in
-    let t = is_held d.buffers.tx_buf in
-    let r = is_held d.buffers.rx_buf in
+    let t = is_some d.buffers.tx_buf in
+    let r = is_some d.buffers.rx_buf in
     let takes = row_of_lem row_takes rows_take a d in
     record {
       transmit =
@@ -154,7 +154,7 @@ kept =
       moves = λ a d h.
           let H : InternalState → Type 0 = λ s. T (not (buffer_missing d.buffers (state_no s))) in
           either H _ _ _ tt (either H _ _ _ tt (either H _ _ _ tt h));
-      reads = λ d f h. rw (is_true (is_held d.buffers.rx_buf) f) tt;
+      reads = λ d f h. rw (is_true (is_some d.buffers.rx_buf) f) tt;
     }
 
 -- the return of the buffers: where nothing is missing, and the state names the frame transfer and no interrupt is handled during one,

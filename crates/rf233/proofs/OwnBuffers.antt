@@ -7,6 +7,7 @@ use Prim.Native.Nat.{ℕ, ◌≤◌, ◌<◌}
 use native.Mathlib.Omega.{arith}
 use lib.Dec.{leb, ltb, lit<}
 use borrow.Author.Tests.{ne_eqb, ltb-true, ltb-false, leb-true, le-leb, not-false}
+use Rattle.std.specs.Prelude.{Option, None, Some}
 use Rattle.rf233.specs.Choice.{pick, one_of, within}
 use Rattle.rf233.specs.Create.{new_driver}
 use Rattle.rf233.specs.Described.{described, slot_above, client_above, recorded_twice, own_nowhere, twice_below}
@@ -16,9 +17,9 @@ use Rattle.rf233.specs.Starter.{buffers_away, refrains, register_transfer}
 use Rattle.rf233.specs.Transfer.{free_to_start}
 use Rattle.rf233.specs.declared.driver.Buffers.{Buffers}
 use Rattle.rf233.specs.declared.driver.Driver.{Driver}
-use Rattle.rf233.specs.declared.driver.Slot.{Slot}
-use Rattle.rf233.specs.declared.driver.Slot.TheVariants.{Empty, Held}
+use Rattle.rf233.specs.declared.driver.Lent.{Lent}
 use Rattle.rf233.specs.declared.driver.Under.TheVariants.{Register, FrameRead}
+use Rattle.rf233.specs.declared.transfer.TransferKind.{TransferKind}
 use Rattle.laws.proofs.Logic.{none_left, none_right, both_left}
 
 -- an own buffer's place, from what the record has
@@ -43,9 +44,9 @@ one_some true h = refl
 one_some false h = absurd (omega arith)
 
 -- a client's place has no own buffer
-pub slot_below : (x : Slot) (k : ℕ) → 15 < k → slot_above x ≡ false → slot_has x k ≡ false
-slot_below Empty k h e = refl
-slot_below (Held c l) k h e = ne_eqb c k (λ q. omega (arith, ltb-false 15 c e))
+pub slot_below : (x : Option Lent) (k : ℕ) → 15 < k → slot_above x ≡ false → slot_has x k ≡ false
+slot_below None k h e = refl
+slot_below (Some x) k h e = ne_eqb x.buffer k (λ q. omega (arith, ltb-false 15 x.buffer e))
 
 module _ (r : Buffers) (k : ℕ) where
   -- not recorded twice, and under way: not in its own place
@@ -114,17 +115,17 @@ module _ (d : Driver) (f : described d ≡ false) where
       e ∙ rw (t, r, u)
 
   -- a frame read leaves the buffers of a register transfer at home
-  pub frame_home : (b l : ℕ) → d.buffers.under ≡ FrameRead b l → (d.buffers.spi_tx ≡ true) × (d.buffers.spi_rx ≡ true)
-  frame_home b l u =
+  pub frame_home : (x : Lent) → d.buffers.under ≡ FrameRead x → (d.buffers.spi_tx ≡ true) × (d.buffers.spi_rx ≡ true)
+  frame_home x u =
       let r = d.buffers in
       let e = none_right (slot_above r.rx_buf) _ (none_right (slot_above r.tx_buf) _ above) in
-      let c = ltb-false 15 b (rw u at e) in
-      (tx_home (rw (u, ne_eqb b 16 (λ q. omega arith))), rx_home (rw (u, ne_eqb b 17 (λ q. omega arith))))
+      let c = ltb-false 15 x.buffer (rw u at e) in
+      (tx_home (rw (u, ne_eqb x.buffer 16 (λ q. omega arith))), rx_home (rw (u, ne_eqb x.buffer 17 (λ q. omega arith))))
 
 -- where none may begin, a register transfer does not
-pub register_refrains : (d : Driver) (n x y : ℕ) → free_to_start d.buffers ≡ false → register_transfer n x y d ≡ refrains d
+pub register_refrains : (d : Driver) (k : TransferKind) (x y : ℕ) → free_to_start d.buffers ≡ false → register_transfer k x y d ≡ refrains d
 unfolding register_transfer pick
-register_refrains d n x y i = rw i
+register_refrains d k x y i = rw i
 
 -- a state that names no frame transfer and takes no buffer
 pub record Plain (n : ℕ) : Type 0 where

@@ -1,20 +1,22 @@
 -- Laws of the pool: what a transfer writes and what a completion copies leave it as long as it was, and what a copy into a lent part of
 -- it makes of the whole. Assumes nothing.
-use mathlib.Core.Path.{◌≡◌}
+use mathlib.Core.Path.{◌≡◌, refl}
 use mathlib.Core.List.{List, ◌++◌, append_assoc}
 use Prim.Native.Nat.{ℕ, ◌+◌, ◌≤◌}
 use native.Mathlib.Omega.{arith}
 use lib.ListN.{length, take, drop, length-append, length-take, length-drop, length-set, take-append-drop}
 use lib.Seq.{take-length, drop-append-le, drop-drop}
 use borrow.Rule.Slice.PartMut.{mid_of, put_mid}
+use Rattle.std.specs.Prelude.{Option, None, Some}
 use Rattle.rf233.proofs.ChoiceLaws.{of_choice, same_choice}
 use Rattle.rf233.specs.Pool.{start_of, command_written, copied}
 use Rattle.rf233.specs.declared.transfer.Transfer.{Transfer}
 
 -- a transfer's command bytes
-pub command_written_length : (t : Transfer) (p : List ℕ) → length (command_written t p) ≡ length p
+pub command_written_length : (t : Option Transfer) (p : List ℕ) → length (command_written t p) ≡ length p
 unfolding command_written
-command_written_length t p = simp (of_choice (length {A = ℕ}), length-set, same_choice)
+command_written_length None p = refl
+command_written_length (Some t) p = simp (of_choice (length {A = ℕ}), length-set, same_choice)
 
 -- arrived bytes that fit
 pub copied_length : (b : ℕ) (xs p : List ℕ) → start_of b + length xs ≤ length p → length (copied b xs p) ≡ length p

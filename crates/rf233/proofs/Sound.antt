@@ -41,8 +41,8 @@ lengths_right d e =
 in_pool : (u : Under) → slot_above (under_slot u) ≡ false → read_buffer u * 160 + 160 ≤ 3040
 in_pool Idle e = lit≤ tt
 in_pool Register e = lit≤ tt
-in_pool (FrameRead c l) e = omega (arith, ltb-false 15 c e)
-in_pool (FrameWrite c l) e = lit≤ tt
+in_pool (FrameRead x) e = omega (arith, ltb-false 15 x.buffer e)
+in_pool (FrameWrite x) e = lit≤ tt
 
 -- the buffer read into lies within the pool
 pub read_fits : (d : Driver) → described d ≡ false → read_buffer d.buffers.under * 160 + 160 ≤ 3040
@@ -56,8 +56,8 @@ within_high low high n e = leb-true n high (both_right (leb low n) (leb n high) 
 short : (u : Under) (b : Buffers) → b.spi_buf_len ≤ 160 → min (write_length u b) (read_length u b) ≤ 160
 short Idle b h = lit≤ tt
 short Register b h = lit≤ tt
-short (FrameRead c l) b h = omega arith
-short (FrameWrite c l) b h = omega arith
+short (FrameRead x) b h = omega arith
+short (FrameWrite x) b h = omega arith
 
 -- the shorter length is at most a buffer's
 pub shorter_fits : (d : Driver) → described d ≡ false → shorter d.buffers ≤ 160

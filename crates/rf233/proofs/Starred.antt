@@ -7,6 +7,7 @@ use mathlib.Core.List.{List, [], ◌∷◌, map}
 use Prim.Native.Nat.{ℕ, zero, suc, ◌+◌, ◌≤◌}
 use lib.IntN.{ℤ, pos}
 use lib.ListN.{length, get_or}
+use Rattle.std.specs.Prelude.{Option, None, Some, option_map}
 use Rattle.rf233_const.specs.Bits.{bit_set}
 use Rattle.rf233_const.specs.Status.{chip_status}
 use Rattle.rf233.specs.Action.{actions}
@@ -21,15 +22,17 @@ use Rattle.rf233.specs.Create.{new_call}
 use Rattle.rf233.specs.Power.{minus, setting_to_power, power_to_setting}
 use Rattle.rf233.specs.Record as rec
 use Rattle.rf233.specs.Described.{described}
-use Rattle.rf233.specs.Record.{record_has}
+use Rattle.rf233.specs.Record.{lent, record_has}
 use Rattle.rf233.specs.State.{state_no}
-use Rattle.rf233.specs.Transfer.{transfer_of, no_transfer, free_to_start}
+use Rattle.rf233.specs.Transfer.{transfer_of, free_to_start}
 use Rattle.rf233.specs.declared.action.Action.TheVariants.{Sent}
 use Rattle.rf233.specs.declared.answer.Answer.TheVariants.{Done}
 use Rattle.rf233.specs.declared.driver.Driver.{Driver}
-use Rattle.rf233.specs.declared.driver.Slot.TheVariants.{Empty, Held}
 use Rattle.rf233.specs.declared.driver.Under.{Under}
 use Rattle.rf233.specs.declared.driver.Under.TheVariants.{Idle, Register, FrameRead}
+use Rattle.rf233.specs.declared.transfer.Transfer.{Transfer}
+use Rattle.rf233.specs.declared.transfer.TransferKind.{TransferKind}
+use Rattle.rf233.specs.declared.transfer.TransferKind.TheVariants as kind
 use Rattle.rf233.proofs.Keys.{range}
 
 -- the driver with another power
@@ -49,8 +52,8 @@ In n d = state_no d.state ≡ n
 pub record MaySend (d : Driver) (b : ℕ) (p : List ℕ) : Type 0 where
   pub passes : Passes12 d p
   pub on : d.flags.radio_on ≡ true
-  pub held : d.buffers.tx_buf ≡ Empty
-  pub is_under_way : rec.tx_under_way d.buffers.under ≡ Empty
+  pub held : d.buffers.tx_buf ≡ None
+  pub is_under_way : rec.tx_under_way d.buffers.under ≡ None
   pub not_transmitting : d.flags.transmitting ≡ false
   pub clients : b ≤ 15
   pub new : record_has d.buffers b ≡ false
@@ -76,58 +79,59 @@ pub record Detours (n : ℕ) (d : Driver) (xs p : List ℕ) : Type 0 where
   pub no_start : bit_set 2 (get_or xs 1 0) ≡ false
   pub no_frame_lem : d.flags.receiving ≡ false
 
--- the call starts a register transfer (kind 1 a read, 2 a write) of these two bytes, which stand at the beginning of buffer 16, and leaves
--- the driver in state n
-pub record Sends (kind first second n : ℕ) (c : Called) : Type 0 where
-  pub transfer : c.outcome.reply.transfer ≡ transfer_of kind 16 17 first second 2 2
+-- the call starts a register transfer of this kind and these two bytes, which stand at the beginning of buffer 16, and leaves the driver
+-- in state n
+pub record Sends (k : TransferKind) (first second n : ℕ) (c : Called) : Type 0 where
+  pub transfer : c.outcome.reply.transfer ≡ Some (transfer_of k 16 17 first second 2 2)
   pub byte_0 : get_or c.pool 2560 0 ≡ first
   pub byte_1 : get_or c.pool 2561 0 ≡ second
   pub state : In n c.outcome.driver
 
 -- the same, of a read and of a write: first byte, second byte, state
 abbrev pub Reads : ℕ → ℕ → ℕ → Called → Type 0
-Reads = Sends 1
+Reads = Sends kind.RegisterRead
 
 abbrev pub Writes : ℕ → ℕ → ℕ → Called → Type 0
-Writes = Sends 2
+Writes = Sends kind.RegisterWrite
 
 -- accepted: buffer b of length l is held for sending, n is its frame's length plus 2
 pub record Takes (b l n : ℕ) (c : Called) : Type 0 where
   pub answer : c.outcome.reply.answer ≡ Done
-  pub held : c.outcome.driver.buffers.tx_buf ≡ Held b l
+  pub held : c.outcome.driver.buffers.tx_buf ≡ Some (lent b l)
   pub frame : c.outcome.driver.buffers.tx_len ≡ n
 
 -- TX_RETURN_TO_RX completes with status 0x16 and this result: the transmit listener is told so, and handed the buffer back
 abbrev pub Told : ℕ → Bool → Bool → Type 0
 Told result ack fail =
-    (d : Driver) (xs p : List ℕ) (b l : ℕ) → Completes Register 43 d xs p → d.clients.tx_client ≡ true → d.buffers.tx_buf ≡ Held b l
+    (d : Driver) (xs p : List ℕ) (b l : ℕ) → Completes Register 43 d xs p → d.clients.tx_client ≡ true → d.buffers.tx_buf ≡ Some (lent b l)
     → chip_status (get_or xs 0 0) ≡ 0x16 → get_or xs 1 0 ≡ result
     → (completion_call d xs p).outcome.reply.actions ≡ actions (Sent b ack fail ∷ [])
 
 -- a frame read of n into buffer b of length l, after which the state is RX_READING_FRAME
 pub record ReadsOut (n b l : ℕ) (c : Called) : Type 0 where
-  pub transfer : c.outcome.reply.transfer ≡ transfer_of 3 18 b 0x20 n (2 + n) l
+  pub transfer : c.outcome.reply.transfer ≡ Some (transfer_of kind.FrameRead 18 b 0x20 n (2 + n) l)
   pub state : In 65 c.outcome.driver
 
 -- the frame read that brings the length n completes, and RX_READING_FRAME_LEN_DONE is entered: the frame is read out, or only TRX_STATUS
 -- is read
 abbrev pub ReadOut : ℕ → Type 0
 ReadOut n =
-    (d : Driver) (xs p : List ℕ) (b l : ℕ) → Completes (FrameRead b l) 63 d xs p → get_or xs 1 0 ≡ n
+    (d : Driver) (xs p : List ℕ) (b l : ℕ) → Completes (FrameRead (lent b l)) 63 d xs p → get_or xs 1 0 ≡ n
     → ReadsOut n b l (completion_call d xs p)
 
 abbrev pub NotReadOut : ℕ → Type 0
 NotReadOut n =
-    (d : Driver) (xs p : List ℕ) (b l : ℕ) → Completes (FrameRead b l) 63 d xs p → get_or xs 1 0 ≡ n
-    → (completion_call d xs p).outcome.reply.transfer ≡ transfer_of 1 16 17 0x81 0x00 2 2
+    (d : Driver) (xs p : List ℕ) (b l : ℕ) → Completes (FrameRead (lent b l)) 63 d xs p → get_or xs 1 0 ≡ n
+    → (completion_call d xs p).outcome.reply.transfer ≡ Some (transfer_of kind.RegisterRead 16 17 0x81 0x00 2 2)
 
 -- completions one after another: completion k brings ys k to the driver and the pool that the call before left
 unfoldable pub run : (ℕ → List ℕ) → ℕ → Called → Called
 run ys zero c = c
 run ys (suc k) c = completion_call (run ys k c).outcome.driver (ys k) (run ys k c).pool
 
-abbrev pub first_sent : Called → ℕ
-first_sent c = c.outcome.reply.transfer.first
+-- the first byte that is sent, where the call starts a transfer
+abbrev pub first_sent : Called → Option ℕ
+first_sent c = option_map (λ (t : Transfer). t.first) c.outcome.reply.transfer
 
 pub record StarredCases : Type 0 where
   -- "`setting_to_power`: 0x0F gives -17, 0x10 gives -127."
@@ -168,12 +172,12 @@ pub record StarredCases : Type 0 where
   pub waiting_commit_run : (d : Driver) (xs p : List ℕ) (ys : ℕ → List ℕ) → Completes Register 29 d xs p → d.flags.config_pending ≡ true
       → ((k : ℕ) → length (ys k) ≡ 2)
       → (map (λ k. first_sent (run ys k (completion_call d xs p))) (range 0 14)
-      ≡ 0xE0 ∷ 0xE2 ∷ 0xE3 ∷ 0xE4 ∷ 0xE5 ∷ 0xE6 ∷ 0xE7 ∷ 0xE8 ∷ 0xE9 ∷ 0xEA ∷ 0xEB ∷ 0xC5 ∷ 0xC8 ∷ 0x81 ∷ [])
+      ≡ map Some (0xE0 ∷ 0xE2 ∷ 0xE3 ∷ 0xE4 ∷ 0xE5 ∷ 0xE6 ∷ 0xE7 ∷ 0xE8 ∷ 0xE9 ∷ 0xEA ∷ 0xEB ∷ 0xC5 ∷ 0xC8 ∷ 0x81 ∷ []))
       × In 29 (run ys 13 (completion_call d xs p)).outcome.driver
   -- "A commit called in READY during a transfer skips SHORT_ADDR_0 instead." It starts nothing, and the next completion writes SHORT_ADDR_1
   pub commit_during : (d : Driver) (p : List ℕ) → Passes12 d p → In 29 d → d.flags.config_pending ≡ false
       → free_to_start d.buffers ≡ false
-      → ((commit_call d p).outcome.reply.transfer ≡ no_transfer) × In 45 (commit_call d p).outcome.driver
+      → ((commit_call d p).outcome.reply.transfer ≡ None) × In 45 (commit_call d p).outcome.driver
   pub commit_during_next : (d : Driver) (xs p : List ℕ) → Completes Register 29 d xs p → d.flags.config_pending ≡ false
       → d.settings.addr ≡ 0xABCD
       → Writes 0xE1 0xAB 46 (completion_call (commit_call d p).outcome.driver xs (commit_call d p).pool)
@@ -187,5 +191,5 @@ pub record StarredCases : Type 0 where
   pub length_10 : NotReadOut 10
   pub length_128 : NotReadOut 128
   -- "After an interrupt detour the IRQ_STATUS value is taken for the length."
-  pub length_detour : (d : Driver) (xs p : List ℕ) (b l : ℕ) → Detours 64 d xs p → d.buffers.rx_buf ≡ Held b l
+  pub length_detour : (d : Driver) (xs p : List ℕ) (b l : ℕ) → Detours 64 d xs p → d.buffers.rx_buf ≡ Some (lent b l)
       → 11 ≤ get_or xs 1 0 → get_or xs 1 0 ≤ 127 → ReadsOut (get_or xs 1 0) b l (completion_call d xs p)

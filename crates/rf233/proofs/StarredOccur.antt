@@ -9,14 +9,14 @@ use lib.ListN.{replicate, length-replicate}
 use Rattle.rf233.specs.Create.{new_driver}
 use Rattle.rf233.specs.Driver.{flagged, with_state, with_settings, with_addr, with_pan, with_buffers}
 use Rattle.rf233.specs.Driver.{with_registers, with_spi_buf, with_spi_buf_len, with_tx, with_rx, with_tx_len, with_under}
-use Rattle.rf233.specs.Driver.Client.{tx_client, rx_client, cfg_client, power_client}
+use Rattle.rf233.specs.declared.driver.Client.TheVariants as listener
 use Rattle.rf233.specs.Driver.Flag.{radio_on, interrupt_handling, config_pending}
 use Rattle.rf233.specs.Listeners.{set_client}
 use Rattle.rf233.specs.Described.{described}
-use Rattle.rf233.specs.Record.{count_of}
+use Rattle.std.specs.Prelude.{Option, None, Some}
+use Rattle.rf233.specs.Record.{lent, count_of}
 use Rattle.rf233.specs.declared.driver.Driver.{Driver}
-use Rattle.rf233.specs.declared.driver.Slot.{Slot}
-use Rattle.rf233.specs.declared.driver.Slot.TheVariants.{Empty, Held}
+use Rattle.rf233.specs.declared.driver.Lent.{Lent}
 use Rattle.rf233.specs.declared.driver.Under.{Under}
 use Rattle.rf233.specs.declared.driver.Under.TheVariants.{Idle, Register, FrameRead}
 use Rattle.rf233.specs.declared.state.InternalState.{InternalState}
@@ -39,10 +39,10 @@ pool = replicate 3040 0
 
 -- a driver in this state, with every listener, PAN 0x1234 and address 0xABCD: w, a commit waits; h, an interrupt is handled; t and b, the
 -- buffers of a register transfer, and spi_buf, are in their places; then the client's places and the transfer under way
-abbrev example : InternalState → Bool → Bool → Bool → Bool → Slot → Slot → Under → Driver
+abbrev example : InternalState → Bool → Bool → Bool → Bool → Option Lent → Option Lent → Under → Driver
 example s w h t b x y u =
     let new = new_driver 129 26 in
-    let listening = set_client power_client (set_client cfg_client (set_client rx_client (set_client tx_client new true) true) true) true in
+    let listening = set_client listener.Power (set_client listener.Config (set_client listener.Receive (set_client listener.Transmit new true) true) true) true in
     let held = with_under u (with_tx_len 10 (with_rx y (with_tx x (with_spi_buf_len 2 (with_spi_buf b (with_registers t new.buffers)))))) in
     flagged radio_on true (flagged interrupt_handling h (flagged config_pending w
     (with_state s (with_buffers held (with_settings (with_pan 0x1234 (with_addr 0xABCD new.settings)) listening)))))
@@ -53,7 +53,7 @@ passes d e = record { pool = length-replicate {A = ℕ} 3040 0; fit = e }
 
 -- a register transfer under way
 abbrev during : Bool → InternalState → Driver
-during w s = example s w false false true Empty Empty Register
+during w s = example s w false false true None None Register
 
 registers : (n : ℕ) (w : Bool) (s : InternalState) → In n (during w s) → described (during w s) ≡ false
     → Completes Register n (during w s) (0 ∷ 0 ∷ []) pool
@@ -61,18 +61,18 @@ registers n w s i e =
     record { passes = passes (during w s) e; state = i; is_under_way = refl; arrived = refl; handling = refl; pending = refl }
 
 pub record Occurs : Type 0 where
-  pub sleeping : Passes12 (example SLEEP false false true true Empty Empty Idle) pool
-  pub sendable : MaySend (example READY false false true true Empty Empty Idle) 3 pool
+  pub sleeping : Passes12 (example SLEEP false false true true None None Idle) pool
+  pub sendable : MaySend (example READY false false true true None None Idle) 3 pool
   pub in_10 : Completes Register 10 (during false START_XAH0_SET) (0 ∷ 0 ∷ []) pool
   pub in_11 : Completes Register 11 (during false START_PANID0_SET) (0 ∷ 0 ∷ []) pool
   pub in_29 : Completes Register 29 (during false READY) (0 ∷ 0 ∷ []) pool
   pub in_29_waiting : Completes Register 29 (during true READY) (0 ∷ 0 ∷ []) pool
   pub in_46 : Completes Register 46 (during false CONFIG_SHORT1_SET) (0 ∷ 0 ∷ []) pool
   pub in_47 : Completes Register 47 (during false CONFIG_PAN0_SET) (0 ∷ 0 ∷ []) pool
-  pub in_43 : Completes Register 43 (example TX_RETURN_TO_RX false false false true (Held 3 130) Empty Register) (0x16 ∷ 0x60 ∷ []) pool
-  pub in_63 : Completes (FrameRead 4 129) 63 (example RX_READING_FRAME_LEN false false true false Empty Empty (FrameRead 4 129))
+  pub in_43 : Completes Register 43 (example TX_RETURN_TO_RX false false false true (Some (lent 3 130)) None Register) (0x16 ∷ 0x60 ∷ []) pool
+  pub in_63 : Completes (FrameRead (lent 4 129)) 63 (example RX_READING_FRAME_LEN false false true false None None (FrameRead (lent 4 129)))
       (0 ∷ 127 ∷ []) pool
-  pub in_64 : Detours 64 (example RX_READING_FRAME_LEN_DONE false true false true Empty (Held 4 129) Register) (0 ∷ 11 ∷ []) pool
+  pub in_64 : Detours 64 (example RX_READING_FRAME_LEN_DONE false true false true None (Some (lent 4 129)) Register) (0 ∷ 11 ∷ []) pool
 
 pub occurs : Occurs
 unfolding described count_of

@@ -10,6 +10,7 @@ use borrow.Author.Tests.{le-leb, le-ltb}
 use Rattle.rf233_const.specs.Bits.{bit_set}
 use Rattle.rf233_const.specs.Command as command
 use Rattle.rf233_const.specs.Register.{register_address}
+use Rattle.std.specs.Prelude.{Some, option_map}
 use Rattle.rf233_const.specs.declared.register.RF233Register.{RF233Register}
 use Rattle.rf233.specs.Action.{actions}
 use Rattle.rf233.specs.Step.{quiet}
@@ -41,6 +42,7 @@ use Rattle.rf233.specs.Rows.Access.{writes}
 use Rattle.rf233.specs.Rows.Next.{to}
 use Rattle.rf233.specs.Rows.Row.{does}
 use Rattle.rf233.specs.Rows.Tree.{leaf}
+use Rattle.rf233.specs.Record.{lent}
 use Rattle.rf233.specs.State.{state_no}
 use Rattle.rf233.specs.Transfer.{transfer_of, free_to_start}
 use Rattle.rf233.specs.Starter.{register_transfer, frame_read_into}
@@ -48,7 +50,6 @@ use Rattle.rf233.specs.Write.{value_of}
 use Rattle.rf233.specs.declared.answer.Outcome.{Outcome}
 use Rattle.rf233.specs.declared.arrived.Arrived.{Arrived}
 use Rattle.rf233.specs.declared.driver.Driver.{Driver}
-use Rattle.rf233.specs.declared.driver.Slot.TheVariants.{Held}
 use Rattle.rf233.specs.declared.driver.Under.TheVariants.{Idle, Register}
 use Rattle.rf233.specs.declared.write.Value.{Value}
 use Rattle.rf233.specs.declared.write.Value.TheVariants.{AddrLow, AddrHigh}
@@ -56,6 +57,7 @@ use Rattle.rf233.specs.declared.state.InternalState.{InternalState}
 use Rattle.rf233.specs.declared.state.InternalState.TheVariants.{CONFIG_SHORT0_SET}
 use Rattle.rf233.specs.declared.starter.Started.{Started}
 use Rattle.rf233.specs.declared.transfer.Transfer.{Transfer}
+use Rattle.rf233.specs.declared.transfer.TransferKind.TheVariants as kind
 use Rattle.laws.proofs.Logic.{both_left}
 use Rattle.rf233.proofs.ChoiceLaws.{either}
 use Rattle.rf233.proofs.Accepted.{arrived}
@@ -102,29 +104,29 @@ module _ {d : Driver} {b : ℕ} {p : List ℕ} (h : MaySend d b p) where
       (either (λ (o : Outcome). Takes b 130 127 (stepping o (set p (start_of b + 1) 127))) _ _ _
       (record {
         answer = refl;
-        held = either (λ (s : Started). s.driver.buffers.tx_buf ≡ Held b 130) _ _ _ refl refl;
+        held = either (λ (s : Started). s.driver.buffers.tx_buf ≡ Some (lent b 130)) _ _ _ refl refl;
         frame = either (λ (s : Started). s.driver.buffers.tx_len ≡ 127) _ _ _ refl refl;
       })
       (record { answer = refl; held = refl; frame = refl }))
 
 -- `start`
-new_sends : (l c : ℕ) (p : List ℕ) → within 129 160 l ≡ true → length p ≡ 3040 → Sends 1 0x9C 0x00 0 (start_call (new_driver l c) p)
+new_sends : (l c : ℕ) (p : List ℕ) → within 129 160 l ≡ true → length p ≡ 3040 → Sends kind.RegisterRead 0x9C 0x00 0 (start_call (new_driver l c) p)
 unfolding start_call begin_start register_transfer pick
-new_sends l c p h e = rw (unguarded (new_driver l c) p _ (record { pool = e; fit = new_fit l c h })) (sends _ _ e refl refl refl refl)
+new_sends l c p h e = rw (unguarded (new_driver l c) p _ (record { pool = e; fit = new_fit l c h })) (sends _ _ e refl refl refl)
 
-new_starts : (l c : ℕ) (p : List ℕ) → length p ≡ 3040 → Sends 1 0x9C 0x00 0 (start_call (new_call l c).driver p)
+new_starts : (l c : ℕ) (p : List ℕ) → length p ≡ 3040 → Sends kind.RegisterRead 0x9C 0x00 0 (start_call (new_call l c).driver p)
 unfolding new_call pick
 new_starts l c p e =
     by_flag (within 129 160 l && channel_fits c)
     (λ t. rw t (new_sends l c p (both_left (within 129 160 l) _ t) e))
     (λ t. rw t (new_sends 129 26 p refl e))
 
-sleep_starts : (d : Driver) (p : List ℕ) → Passes12 d p → In 31 d → d.buffers.under ≡ Idle → Sends 1 0x81 0x00 32 (start_call d p)
+sleep_starts : (d : Driver) (p : List ℕ) → Passes12 d p → In 31 d → d.buffers.under ≡ Idle → Sends kind.RegisterRead 0x81 0x00 32 (start_call d p)
 unfolding start_call begin_start register_transfer pick
 sleep_starts d p h s u =
     let t = tx_home d h.fit (rw u) in
     let r = rx_home d h.fit (rw u) in
-    rw (unguarded d p _ h, s) (sends _ _ h.pool refl refl (rw (u, t, r)) (rw (u, t, r)))
+    rw (unguarded d p _ h, s) (sends _ _ h.pool refl (rw (u, t, r)) (rw (u, t, r)))
 
 -- a commit: waiting when READY completes, and called in READY during a transfer
 module _ {d : Driver} {xs p : List ℕ} (h : Completes Register 29 d xs p) where
@@ -137,7 +139,7 @@ module _ {d : Driver} {xs p : List ℕ} (h : Completes Register 29 d xs p) where
   waits c =
       rw (accepted_step h refl, at_ready (arrived d xs p), h.handling, unmoved 29 d.state (search) h.state, c, h.state)
       (record {
-        sent = sends _ _ (still h) refl refl (rw h.is_under_way) (rw h.is_under_way);
+        sent = sends _ _ (still h) refl (rw h.is_under_way) (rw h.is_under_way);
         pool = command_written_length _ _ ∙ still h;
         buffers = same_record d h.passes.fit _ h.is_under_way (rw h.is_under_way);
         handling = rw h.is_under_way;
@@ -149,10 +151,10 @@ during : (d : Driver) (p : List ℕ) → Passes12 d p → In 29 d → d.flags.co
     → commit_call d p ≡ record { outcome = quiet (with_state CONFIG_SHORT0_SET (flagged config_pending true d)) (actions []); pool = p }
 unfolding commit_call begin_commit command_written pick
 during d p h s c u =
-    rw (unguarded d p _ h, c, s, register_refrains (with_state CONFIG_SHORT0_SET (flagged config_pending true d)) 2 _ _ u)
+    rw (unguarded d p _ h, c, s, register_refrains (with_state CONFIG_SHORT0_SET (flagged config_pending true d)) kind.RegisterWrite _ _ u)
 
 during_next : (d : Driver) (xs p : List ℕ) → Completes Register 29 d xs p → d.flags.config_pending ≡ false
-    → Sends 2 0xE1 (value_of AddrHigh d.settings) 46 (completion_call (commit_call d p).outcome.driver xs (commit_call d p).pool)
+    → Sends kind.RegisterWrite 0xE1 (value_of AddrHigh d.settings) 46 (completion_call (commit_call d p).outcome.driver xs (commit_call d p).pool)
 unfolding tree_at trees
 during_next d xs p h c =
     let e = with_state CONFIG_SHORT0_SET (flagged config_pending true d) in
@@ -171,7 +173,7 @@ during_next d xs p h c =
 
 -- CONFIG_DONE, and back in READY
 done : {d : Driver} {xs p : List ℕ} → Completes Register 58 d xs p
-    → (first_sent (completion_call d xs p) ≡ 0x81) × In 29 (completion_call d xs p).outcome.driver
+    → (first_sent (completion_call d xs p) ≡ Some 0x81) × In 29 (completion_call d xs p).outcome.driver
 unfolding case_of tree_at trees eval perform register_transfer pick
 done {d} {xs} {p} h =
     rw (straight h 58 refl (rw (unmoved 58 d.state (search) h.state) h.state) refl, h.is_under_way)
@@ -183,25 +185,25 @@ module _ (ys : ℕ → List ℕ) (two : (k : ℕ) → length (ys k) ≡ 2) where
   At c n k = Completes Register n (run ys k c).outcome.driver (ys k) (run ys k c).pool
 
   first_write : {d : Driver} {xs p : List ℕ} → Completes Register 29 d xs p → d.flags.config_pending ≡ true
-      → (first_sent (run ys 0 (completion_call d xs p)) ≡ 0xE0) × At (completion_call d xs p) 46 0
+      → (first_sent (run ys 0 (completion_call d xs p)) ≡ Some 0xE0) × At (completion_call d xs p) 46 0
   unfolding run
-  first_write h w = (ap (λ (x : Transfer). x.first) (waits h w).sent.transfer, next (ys 0) (search) (search) h (waits h w) (two 0))
+  first_write h w = (ap (option_map (λ (x : Transfer). x.first)) (waits h w).sent.transfer, next (ys 0) (search) (search) h (waits h w) (two 0))
 
   link : {r : RF233Register} {v : Value} {s : InternalState} (c : Called) (k n : ℕ) → Plain n → Plain (state_no s) → eqb n 29 ≡ false
       → tree_at n ≡ leaf (does [] (writes r v) (to s) []) → At c n k
-      → (first_sent (run ys (suc k) c) ≡ command.register_write (register_address r)) × At c (state_no s) (suc k)
+      → (first_sent (run ys (suc k) c) ≡ Some (command.register_write (register_address r))) × At c (state_no s) (suc k)
   unfolding run
   link c k n f g i t h =
       let e = write_case f i t h in
-      (ap (λ (x : Transfer). x.first) e.sent.transfer, next (ys (suc k)) f g h e (two (suc k)))
+      (ap (option_map (λ (x : Transfer). x.first)) e.sent.transfer, next (ys (suc k)) f g h e (two (suc k)))
 
-  ended : (c : Called) (k : ℕ) → At c 58 k → (first_sent (run ys (suc k) c) ≡ 0x81) × In 29 (run ys (suc k) c).outcome.driver
+  ended : (c : Called) (k : ℕ) → At c 58 k → (first_sent (run ys (suc k) c) ≡ Some 0x81) × In 29 (run ys (suc k) c).outcome.driver
   unfolding run
   ended c k h = done h
 
   whole : (d : Driver) (xs p : List ℕ) → Completes Register 29 d xs p → d.flags.config_pending ≡ true
       → (map (λ k. first_sent (run ys k (completion_call d xs p))) (range 0 14)
-      ≡ 0xE0 ∷ 0xE2 ∷ 0xE3 ∷ 0xE4 ∷ 0xE5 ∷ 0xE6 ∷ 0xE7 ∷ 0xE8 ∷ 0xE9 ∷ 0xEA ∷ 0xEB ∷ 0xC5 ∷ 0xC8 ∷ 0x81 ∷ [])
+      ≡ map Some (0xE0 ∷ 0xE2 ∷ 0xE3 ∷ 0xE4 ∷ 0xE5 ∷ 0xE6 ∷ 0xE7 ∷ 0xE8 ∷ 0xE9 ∷ 0xEA ∷ 0xEB ∷ 0xC5 ∷ 0xC8 ∷ 0x81 ∷ []))
       × In 29 (run ys 13 (completion_call d xs p)).outcome.driver
   unfolding tree_at trees
   whole d xs p h w =
@@ -233,12 +235,12 @@ read_out : (n : ℕ) → leb 11 n ≡ true → leb n 127 ≡ true → ReadOut n
 unfolding case_of tree_at trees eval holds perform frame_read_into frame_done pick
 read_out n e f d xs p b l h r =
     rw (straight h 64 refl (rw h.state) refl, r, e, f, h.is_under_way)
-    (record { transfer = ap (λ (k : ℕ). transfer_of 3 18 b 0x20 n k l) (omega arith); state = refl })
+    (record { transfer = ap (λ (k : ℕ). Some (transfer_of kind.FrameRead 18 b 0x20 n k l)) (omega arith); state = refl })
 
 not_read_out : (n : ℕ) → leb 11 n && leb n 127 ≡ false → NotReadOut n
 unfolding case_of tree_at trees eval holds perform register_transfer frame_done pick
 not_read_out n e d xs p b l h r =
-    let own = frame_home d h.passes.fit b l h.is_under_way in
+    let own = frame_home d h.passes.fit (lent b l) h.is_under_way in
     rw (straight h 64 refl (rw h.state) refl, r, e)
     (by_flag d.flags.transmitting (λ t. rw (t, h.is_under_way, own.0, own.1)) (λ t. rw (t, h.is_under_way, own.0, own.1)))
 
@@ -249,7 +251,7 @@ unfolding completed interrupt_result interrupt_state frame_end ready_bookkeeping
 detour a d xs p h r =
     rw (h.handling, h.state, r, h.no_start, h.no_frame_lem, and-false (bit_set 3 (get_or xs 1 0)), h.state, h.pending, and-false)
 
-detoured : (d : Driver) (xs p : List ℕ) (b l : ℕ) → Detours 64 d xs p → d.buffers.rx_buf ≡ Held b l → 11 ≤ get_or xs 1 0
+detoured : (d : Driver) (xs p : List ℕ) (b l : ℕ) → Detours 64 d xs p → d.buffers.rx_buf ≡ Some (lent b l) → 11 ≤ get_or xs 1 0
     → get_or xs 1 0 ≤ 127
     → ReadsOut (get_or xs 1 0) b l (completion_call d xs p)
 unfolding completion_call completing case_of tree_at trees eval holds perform frame_read_into pick
@@ -263,11 +265,11 @@ detoured d xs p b l h x e f =
       le-leb (get_or xs 1 0) 127 f,
       h.is_under_way,
     )
-    (record { transfer = rw (x, own) (ap (λ (k : ℕ). transfer_of 3 18 b 0x20 (get_or xs 1 0) k l) (omega arith)); state = rw (x, own) })
+    (record { transfer = rw (x, own) (ap (λ (k : ℕ). Some (transfer_of kind.FrameRead 18 b 0x20 (get_or xs 1 0) k l)) (omega arith)); state = rw (x, own) })
 
 -- the second byte of a write, from what is known of the settings
-second : {first x y n : ℕ} {c : Called} → x ≡ y → Sends 2 first x n c → Sends 2 first y n c
-second {first} {n = n} {c = c} e s = subst (λ (z : ℕ). Sends 2 first z n c) e s
+second : {first x y n : ℕ} {c : Called} → x ≡ y → Sends kind.RegisterWrite first x n c → Sends kind.RegisterWrite first y n c
+second {first} {n = n} {c = c} e s = subst (λ (z : ℕ). Sends kind.RegisterWrite first z n c) e s
 
 abbrev high : ℕ → ℕ
 high x = x / 256

@@ -9,6 +9,7 @@ use lib.Dec.{eqb, ltb}
 use lib.ListN.{length, get_or, set, length-set}
 use lib.Seq.{get_or-set_same, get_or-set_other}
 use borrow.Author.Tests.{eq-eqb, ltb-false}
+use Rattle.std.specs.Prelude.{Some}
 use Rattle.rf233_const.specs.Command as command
 use Rattle.rf233_const.specs.Register.{register_address}
 use Rattle.rf233_const.specs.declared.register.RF233Register.{RF233Register}
@@ -24,7 +25,7 @@ use Rattle.rf233.specs.Rows.Next.{to}
 use Rattle.rf233.specs.Rows.Row.{does}
 use Rattle.rf233.specs.Rows.Tree.{leaf}
 use Rattle.rf233.specs.State.{state_no}
-use Rattle.rf233.specs.Transfer.{transfer_of, under_way}
+use Rattle.rf233.specs.Transfer.{kind_value, transfer_of, under_way}
 use Rattle.rf233.specs.Starter.{register_transfer}
 use Rattle.rf233.specs.Write.{value_of}
 use Rattle.rf233.specs.declared.answer.Outcome.{Outcome}
@@ -32,6 +33,8 @@ use Rattle.rf233.specs.declared.driver.Buffers.{Buffers}
 use Rattle.rf233.specs.declared.driver.Driver.{Driver}
 use Rattle.rf233.specs.declared.driver.Under.{Under}
 use Rattle.rf233.specs.declared.driver.Under.TheVariants.{Register}
+use Rattle.rf233.specs.declared.transfer.TransferKind.{TransferKind}
+use Rattle.rf233.specs.declared.transfer.TransferKind.TheVariants as kind
 use Rattle.rf233.specs.declared.write.Value.{Value}
 use Rattle.rf233.specs.declared.state.InternalState.{InternalState}
 use Rattle.laws.proofs.Logic.{none_right}
@@ -47,20 +50,20 @@ unfolding pick
 unguarded d p c h = rw (eq-eqb (length p) 3040 h.pool, h.fit)
 
 -- the bytes of a register transfer in a pool of 3,040
-bytes : (k first second : ℕ) (q : List ℕ) → length q ≡ 3040 → eqb k 0 ≡ false → ltb k 3 ≡ true
-    → (get_or (command_written (transfer_of k 16 17 first second 2 2) q) 2560 0 ≡ first)
-    × (get_or (command_written (transfer_of k 16 17 first second 2 2) q) 2561 0 ≡ second)
+bytes : (k : TransferKind) (first second : ℕ) (q : List ℕ) → length q ≡ 3040 → ltb (kind_value k) 3 ≡ true
+    → (get_or (command_written (Some (transfer_of k 16 17 first second 2 2)) q) 2560 0 ≡ first)
+    × (get_or (command_written (Some (transfer_of k 16 17 first second 2 2)) q) 2561 0 ≡ second)
 unfolding command_written pick
-bytes k first second q l e f = (
-  rw (e, f, get_or-set_other (set q 2560 first) 2561 2560 second 0 (λ x. omega arith), get_or-set_same q 2560 first 0 (omega arith)),
-  rw (e, f, get_or-set_same (set q 2560 first) 2561 second 0 (rw (length-set) (omega arith))),
+bytes k first second q l f = (
+  rw (f, get_or-set_other (set q 2560 first) 2561 2560 second 0 (λ x. omega arith), get_or-set_same q 2560 first 0 (omega arith)),
+  rw (f, get_or-set_same (set q 2560 first) 2561 second 0 (rw (length-set) (omega arith))),
 )
 
 -- a step that starts a register transfer sends it
-pub sends : {k first second n : ℕ} (o : Outcome) (q : List ℕ) → length q ≡ 3040 → eqb k 0 ≡ false → ltb k 3 ≡ true
-    → o.reply.transfer ≡ transfer_of k 16 17 first second 2 2 → In n o.driver → Sends k first second n (stepping o q)
-sends {k} {first} {second} o q l e f t s =
-    let b = bytes k first second q l e f in
+pub sends : {k : TransferKind} {first second n : ℕ} (o : Outcome) (q : List ℕ) → length q ≡ 3040 → ltb (kind_value k) 3 ≡ true
+    → o.reply.transfer ≡ Some (transfer_of k 16 17 first second 2 2) → In n o.driver → Sends k first second n (stepping o q)
+sends {k} {first} {second} o q l f t s =
+    let b = bytes k first second q l f in
     record { transfer = t; byte_0 = rw t b.0; byte_1 = rw t b.1; state = s }
 
 -- the pool with the arrived bytes
@@ -102,7 +105,7 @@ unmoved n s c e = rw e (unframed (eqb n 34) (eqb n 63) (eqb n 65) _ _ _ s c.name
 
 -- a step that sends a register write and goes on from there: the record is as before, no interrupt is handled or pending
 pub record Goes (first second n : ℕ) (d : Driver) (c : Called) : Type 0 where
-  pub sent : Sends 2 first second n c
+  pub sent : Sends kind.RegisterWrite first second n c
   pub pool : length c.pool ≡ 3040
   pub buffers : c.outcome.driver.buffers ≡ d.buffers
   pub handling : c.outcome.driver.flags.interrupt_handling ≡ false
@@ -136,7 +139,7 @@ module _ {n : ℕ} {r : RF233Register} {v : Value} {s : InternalState} {d : Driv
   write_case c f t h =
       rw (straight h n refl (rw (unmoved n d.state c h.state) h.state) f, t)
       (record {
-        sent = sends _ _ (still h) refl refl (rw h.is_under_way) (rw h.is_under_way);
+        sent = sends _ _ (still h) refl (rw h.is_under_way) (rw h.is_under_way);
         pool = command_written_length _ _ ∙ still h;
         buffers = same_record d h.passes.fit _ h.is_under_way (rw h.is_under_way);
         handling = rw h.is_under_way;

@@ -8,6 +8,7 @@ use mathlib.Core.List.{List, [], ◌∷◌, ◌++◌}
 use native.Mathlib.Omega.{arith}
 use lib.Dec.{T, eqb, ltb, lit<, lt→ltb, ltb→lt}
 use borrow.Author.Tests.{eqb-true, eqb-false, eq-eqb, ne_eqb, ltb-true, ltb-false, lt-ltb}
+use Rattle.std.specs.Prelude.{Option, None, Some}
 use Rattle.rf233.proofs.Conditions.{by_flag}
 use Rattle.laws.proofs.Logic.{none_left, none_right, both_ways, or_left, or_right, or_case, or_left_comm}
 use Rattle.rf233.proofs.OwnBuffers.{only_16, only_17, only_18, slot_below}
@@ -25,8 +26,7 @@ use Rattle.rf233.specs.Described.{
   own_wrong,
 }
 use Rattle.rf233.specs.declared.driver.Buffers.{Buffers}
-use Rattle.rf233.specs.declared.driver.Slot.{Slot}
-use Rattle.rf233.specs.declared.driver.Slot.TheVariants.{Empty, Held}
+use Rattle.rf233.specs.declared.driver.Lent.{Lent}
 use Rattle.rf233.specs.declared.driver.Under.{Under}
 use Rattle.rf233.specs.declared.driver.Under.TheVariants.{Idle, Register, FrameRead, FrameWrite}
 
@@ -63,9 +63,9 @@ times_append k [] m = omega arith
 times_append k (c ∷ l) m = omega (arith, times_append k l m)
 
 -- a place names what it has
-named_times : (s : Slot) (k : ℕ) → times k (named_in s) ≡ one (slot_has s k)
-named_times Empty k = refl
-named_times (Held c l) k = omega arith
+named_times : (s : Option Lent) (k : ℕ) → times k (named_in s) ≡ one (slot_has s k)
+named_times None k = refl
+named_times (Some x) k = omega arith
 
 some_append : (a b : ℕ) → ltb 0 (a + b) ≡ ltb 0 a || ltb 0 b
 some_append zero b = let e : 0 + b ≡ b = omega arith in ap (ltb 0) e
@@ -92,24 +92,24 @@ repeats_append (c ∷ l) m =
     (two_three (ltb 0 (times c l)) (ltb 0 (times c m)) (meets l m) (repeats l) (repeats m))
 
 -- a place names no buffer twice, and meets another's as `same_buffer` asks
-named_once : (s : Slot) → repeats (named_in s) ≡ false
-named_once Empty = refl
-named_once (Held c l) = refl
+named_once : (s : Option Lent) → repeats (named_in s) ≡ false
+named_once None = refl
+named_once (Some x) = refl
 
-pub meets_slot : (c : ℕ) (s : Slot) → meets (c ∷ []) (named_in s) ≡ slot_has s c
-meets_slot c Empty = refl
-meets_slot c (Held b l) = go (eqb b c)
+pub meets_slot : (c : ℕ) (s : Option Lent) → meets (c ∷ []) (named_in s) ≡ slot_has s c
+meets_slot c None = refl
+meets_slot c (Some x) = go (eqb x.buffer c)
   where
     go : (v : Bool) → ltb 0 (one v + 0) || false ≡ v
     go true = refl
     go false = refl
 
-pub meets_empty : (s : Slot) → meets (named_in s) [] ≡ false
-meets_empty Empty = refl
-meets_empty (Held c l) = refl
+pub meets_empty : (s : Option Lent) → meets (named_in s) [] ≡ false
+meets_empty None = refl
+meets_empty (Some x) = refl
 
 -- the client's places, two by two
-pub pairs : (x y z : Slot) → (meets (named_in x) (named_in y) || meets (named_in x) (named_in z)) || meets (named_in y) (named_in z)
+pub pairs : (x y z : Option Lent) → (meets (named_in x) (named_in y) || meets (named_in x) (named_in z)) || meets (named_in y) (named_in z)
     ≡ repeats (named_in x ++ (named_in y ++ named_in z))
 pairs x y z =
     rw (
@@ -153,21 +153,21 @@ module _ (r : Buffers) where
       by_flag (eqb k n) (λ e. or_right (twice_below r n) (twice n) (subst (λ z. T (twice z)) (eqb-true k n e) t))
       (λ e. or_left (twice_below r n) (twice n) (is_below n k (omega (arith, eqb-false k n e)) t))
 
-  abbrev tx : Slot
+  abbrev tx : Option Lent
   tx = r.tx_buf
 
-  abbrev rx : Slot
+  abbrev rx : Option Lent
   rx = r.rx_buf
 
-  abbrev going : Slot
+  abbrev going : Option Lent
   going = under_slot r.under
 
   -- of a client's buffer the transfer under way has what its client's place has
   under_client : (u : Under) (k : ℕ) → k < 16 → under_has u k ≡ slot_has (under_slot u) k
   under_client Idle k h = refl
   under_client Register k h = rw (ne_eqb 16 k (λ e. omega arith), ne_eqb 17 k (λ e. omega arith))
-  under_client (FrameRead c l) k h = rw (ne_eqb 18 k (λ e. omega arith))
-  under_client (FrameWrite c l) k h = rw (ne_eqb 18 k (λ e. omega arith))
+  under_client (FrameRead x) k h = rw (ne_eqb 18 k (λ e. omega arith))
+  under_client (FrameWrite x) k h = rw (ne_eqb 18 k (λ e. omega arith))
 
   -- a client's buffer is recorded as often as the places name it
   count_client : (k : ℕ) → k < 16 → count_of r k ≡ times k (clients_named r)
@@ -201,10 +201,11 @@ module _ (r : Buffers) where
     going_low = none_right (slot_above rx) _ (none_right (slot_above tx) _ above)
 
     -- what the places name is below 16
-    named_low : (s : Slot) (k : ℕ) → slot_above s ≡ false → 0 < times k (named_in s) → k < 16
-    named_low Empty k e h = absurd (omega arith)
-    named_low (Held c l) k e h =
-        by_flag (eqb c k) (λ q. omega (arith, ltb-false 15 c e, eqb-true c k q)) (λ q. absurd (omega (arith, rw q at h)))
+    named_low : (s : Option Lent) (k : ℕ) → slot_above s ≡ false → 0 < times k (named_in s) → k < 16
+    named_low None k e h = absurd (omega arith)
+    named_low (Some x) k e h =
+        by_flag (eqb x.buffer k) (λ q. omega (arith, ltb-false 15 x.buffer e, eqb-true x.buffer k q))
+        (λ q. absurd (omega (arith, rw q at h)))
 
     all_low : (k : ℕ) → 0 < times k (clients_named r) → k < 16
     all_low k h =
@@ -239,16 +240,16 @@ module _ (r : Buffers) where
       ≡ m || (own_wrong u r || rest)
   owns Idle low m rest = simp (and-false, or-false, or_assoc)
   owns Register low m rest = simp (and-true, and-false, or-true, or-false, or_assoc)
-  owns (FrameRead c l) low m rest =
+  owns (FrameRead x) low m rest =
       rw (
-        slot_below (Held c l) 16 (lit< tt) low,
-        slot_below (Held c l) 17 (lit< tt) low,
+        slot_below (Some x) 16 (lit< tt) low,
+        slot_below (Some x) 17 (lit< tt) low,
       )
       (simp (and-true, and-false, or-true, or-false, or_assoc))
-  owns (FrameWrite c l) low m rest =
+  owns (FrameWrite x) low m rest =
       rw (
-        slot_below (Held c l) 16 (lit< tt) low,
-        slot_below (Held c l) 17 (lit< tt) low,
+        slot_below (Some x) 16 (lit< tt) low,
+        slot_below (Some x) 17 (lit< tt) low,
       )
       (simp (and-true, and-false, or-true, or-false, or_assoc))
 

@@ -1,18 +1,13 @@
 -- Document 01: a step yields at most six actions, in order. A list of them as the code holds it: how many, and six places, filled up
 -- with `Nothing`.
-use Rattle.std.specs.Prelude.{ℕ, List, ◌++◌, map, length, take, replicate}
+use Rattle.std.specs.Prelude.{ℕ, List, ◌++◌, length, take, replicate}
 use Rattle.rf233.specs.declared.action.Action.{Action}
 use Rattle.rf233.specs.declared.action.Action.TheVariants.{Nothing}
-use Rattle.rf233.specs.declared.action.Item.{Item}
 use Rattle.rf233.specs.declared.action.Actions.{Actions}
-
--- an action as an element of the list
-abbrev pub item : Action → Item
-item a = record { action = a }
 
 -- six places, and how many of them count
 abbrev pub padded : ℕ → List Action → Actions
-padded n l = record { count = n; items = map item l }
+padded n l = record { count = n; items = l }
 
 -- the list of these actions, of which there are at most six
 abbrev pub actions : List Action → Actions

@@ -1,7 +1,6 @@
 -- Document 01's refusals by number ("Who can cause which refusal"), and what a refusal yields.
-use Rattle.std.specs.Prelude.{ℕ, List, [], ◌∷◌, get_or}
+use Rattle.std.specs.Prelude.{ℕ, List, [], ◌∷◌, get_or, None}
 use Rattle.rf233.specs.Action.{actions}
-use Rattle.rf233.specs.Transfer.{no_transfer}
 use Rattle.rf233.specs.declared.answer.Answer.{Answer}
 use Rattle.rf233.specs.declared.answer.Answer.TheVariants.{
   Done,
@@ -55,4 +54,4 @@ answer_of n = get_or answers n Done
 
 -- the refusal of this number: no transfer, no actions
 abbrev pub refused : ℕ → Driver → Outcome
-refused n d = record { driver = d; reply = record { answer = answer_of n; transfer = no_transfer; actions = actions [] } }
+refused n d = record { driver = d; reply = record { answer = answer_of n; transfer = None; actions = actions [] } }

@@ -1,11 +1,10 @@
 -- Each state's own case: the trees of the 69 states, and what carries a row out (document 01, "What a step does").
-use Rattle.std.specs.Prelude.{ℕ, List, [], ◌∷◌, ◌++◌, get_or}
+use Rattle.std.specs.Prelude.{ℕ, List, [], ◌∷◌, ◌++◌, get_or, None}
 use Rattle.rf233.specs.Action.{actions}
 use Rattle.rf233.specs.Step.{quiet, step_of}
 use Rattle.rf233.specs.Choice.{pick}
 use Rattle.rf233.specs.Commit.{commit_trees}
 use Rattle.rf233.specs.Driver.{client, assigning, with_state, with_buffers, with_tx, with_rx}
-use Rattle.rf233.specs.Driver.Client.{cfg_client, power_client}
 use Rattle.rf233.specs.Ready.{ready_trees}
 use Rattle.rf233.specs.Receive.{received, receive_trees}
 use Rattle.rf233.specs.Record.{buffer_in}
@@ -26,8 +25,8 @@ use Rattle.rf233.specs.declared.action.Actions.{Actions}
 use Rattle.rf233.specs.declared.answer.Outcome.{Outcome}
 use Rattle.rf233.specs.declared.arrived.Arrived.{Arrived}
 use Rattle.rf233.specs.declared.driver.Buffers.{Buffers}
+use Rattle.rf233.specs.declared.driver.Client.TheVariants as listener
 use Rattle.rf233.specs.declared.driver.Driver.{Driver}
-use Rattle.rf233.specs.declared.driver.Slot.TheVariants.{Empty}
 
 -- the case of each state, in the order of document 01's numbers
 unfoldable pub trees : List Tree
@@ -40,8 +39,8 @@ tree_at n = get_or trees n stay
 -- an action of a row put before others, from the driver after its assignments and before the buffer leaves its place
 abbrev pub show : Arrived → Driver → Shown → List Action → List Action
 show a d (plain x) l = x ∷ l
-show a d power_changed l = pick (client power_client d.clients) (Power d.flags.radio_on ∷ l) l
-show a d config_done l = pick (client cfg_client d.clients) (ConfigDone ∷ l) l
+show a d power_changed l = pick (client listener.Power d.clients) (Power d.flags.radio_on ∷ l) l
+show a d config_done l = pick (client listener.Config d.clients) (ConfigDone ∷ l) l
 show a d sent_back l = send_done d.buffers.tx_buf a.result ∷ l
 show a d dropped_back l = Dropped (buffer_in d.buffers.tx_buf) ∷ l
 show a d received_back l = received a.length d ∷ l
@@ -53,11 +52,11 @@ shown a d (s ∷ more) = show a d s (shown a d more)
 
 -- the record with the transmit place emptied
 abbrev pub without_tx : Buffers → Buffers
-without_tx b = with_tx Empty b
+without_tx b = with_tx None b
 
 -- the record with the receive place emptied
 abbrev pub without_rx : Buffers → Buffers
-without_rx b = with_rx Empty b
+without_rx b = with_rx None b
 
 -- the record once the buffers that a row's actions hand back have left their places
 abbrev pub handed : List Shown → Buffers → Buffers

@@ -1,6 +1,6 @@
 -- The order of a completion (document 01, "What a step does"): buffer return, interrupt result, READY bookkeeping, pending interrupt,
 -- waiting commit, the state's own case. Each phase stands behind the one that it hands on to.
-use Rattle.std.specs.Prelude.{ℕ, Bool, true, false, not, ◌&&◌, ◌||◌, [], ◌∷◌, eqb}
+use Rattle.std.specs.Prelude.{ℕ, Bool, true, false, not, ◌&&◌, ◌||◌, [], ◌∷◌, eqb, Some, is_some}
 use Rattle.rf233_const.specs.declared.register.RF233Register.TheVariants.{MIN, TRX_STATUS, SHORT_ADDR_0}
 use Rattle.rf233.specs.Case.{own_case}
 use Rattle.rf233.specs.Choice.{pick, one_of}
@@ -18,7 +18,6 @@ use Rattle.rf233.specs.Driver.Flag.{
   power_client_pending,
 }
 use Rattle.rf233.specs.Interrupt.{handle_interrupt, rx_start, trx_end, interrupt_state}
-use Rattle.rf233.specs.Record.{is_held}
 use Rattle.rf233.specs.State.{state_no}
 use Rattle.rf233.specs.Step.{done_step, transition_read, transition_write}
 use Rattle.rf233.specs.Write.{value_of}
@@ -26,7 +25,6 @@ use Rattle.rf233.specs.declared.answer.Outcome.{Outcome}
 use Rattle.rf233.specs.declared.arrived.Arrived.{Arrived}
 use Rattle.rf233.specs.declared.driver.Buffers.{Buffers}
 use Rattle.rf233.specs.declared.driver.Driver.{Driver}
-use Rattle.rf233.specs.declared.driver.Slot.TheVariants.{Held}
 use Rattle.rf233.specs.declared.driver.Under.{Under}
 use Rattle.rf233.specs.declared.driver.Under.TheVariants.{Idle, Register, FrameRead, FrameWrite}
 use Rattle.rf233.specs.declared.state.InternalState.{InternalState}
@@ -72,7 +70,7 @@ unfoldable pub frame_end : Arrived → Driver → Outcome
 frame_end a d =
     let e = flagged receiving false d in
     pick (trx_end a && flag receiving d.flags)
-    (pick (is_held d.buffers.rx_buf) (ready_bookkeeping a (with_state state.RX_START_READING e))
+    (pick (is_some d.buffers.rx_buf) (ready_bookkeeping a (with_state state.RX_START_READING e))
     (pick (flag transmitting d.flags) (transition_read MIN TX_STATUS_PRECHECK1 e) (transition_read TRX_STATUS READY e)))
     (ready_bookkeeping a d)
 
@@ -86,8 +84,8 @@ interrupt_result a d =
 abbrev pub buffers_back : Under → Buffers → Buffers
 buffers_back Idle b = b
 buffers_back Register b = with_under Idle (with_registers true b)
-buffers_back (FrameRead c l) b = with_under Idle (with_rx (Held c l) (with_spi_buf true b))
-buffers_back (FrameWrite c l) b = with_under Idle (with_tx (Held c l) (with_spi_buf true b))
+buffers_back (FrameRead x) b = with_under Idle (with_rx (Some x) (with_spi_buf true b))
+buffers_back (FrameWrite x) b = with_under Idle (with_tx (Some x) (with_spi_buf true b))
 
 -- the state once a frame transfer is over; while an interrupt is handled, the transfer was a register's
 unfoldable pub frame_done : Bool → InternalState → InternalState

@@ -1,5 +1,5 @@
 -- The Rust's `RadioData`: what a frame to send and a buffer to receive into yield. The order of refusals is document 01's.
-use Rattle.std.specs.Prelude.{ℕ, ◌+◌, Bool, true, not, ◌&&◌, ◌||◌, List, [], leb, ltb, set}
+use Rattle.std.specs.Prelude.{ℕ, ◌+◌, Bool, true, not, ◌&&◌, ◌||◌, List, [], leb, ltb, set, Some, is_some}
 use Rattle.rf233_const.specs.declared.register.RF233Register.TheVariants.{TRX_STATUS}
 use Rattle.rf233.specs.Action.{actions}
 use Rattle.rf233.specs.Step.{quiet, transition_read}
@@ -9,10 +9,9 @@ use Rattle.rf233.specs.Driver.{flag, flagged, with_buffers, with_tx, with_rx, wi
 use Rattle.rf233.specs.Driver.Flag.{radio_on, transmitting, receiving}
 use Rattle.rf233.specs.Guard.{Called, refusing, stepping, guarded}
 use Rattle.rf233.specs.Pool.{start_of}
-use Rattle.rf233.specs.Record.{is_held, record_has, tx_under_way, rx_under_way}
+use Rattle.rf233.specs.Record.{lent, record_has, tx_under_way, rx_under_way}
 use Rattle.rf233.specs.declared.answer.Outcome.{Outcome}
 use Rattle.rf233.specs.declared.driver.Driver.{Driver}
-use Rattle.rf233.specs.declared.driver.Slot.TheVariants.{Held}
 use Rattle.rf233.specs.declared.state.InternalState.TheVariants.{TX_STATUS_PRECHECK1}
 
 -- refusal 7: a buffer that is no client's, or longer than a buffer of the pool
@@ -21,17 +20,17 @@ handle_bad b l = ltb 15 b || ltb 160 l
 
 -- refusal 2: a transmit buffer is held or under way, or the driver is transmitting
 abbrev pub tx_busy : Driver → Bool
-tx_busy d = is_held d.buffers.tx_buf || (is_held (tx_under_way d.buffers.under) || flag transmitting d.flags)
+tx_busy d = is_some d.buffers.tx_buf || (is_some (tx_under_way d.buffers.under) || flag transmitting d.flags)
 
 -- refusal 10: a receive buffer is held or under way
 abbrev pub rx_full : Driver → Bool
-rx_full d = is_held d.buffers.rx_buf || is_held (rx_under_way d.buffers.under)
+rx_full d = is_some d.buffers.rx_buf || is_some (rx_under_way d.buffers.under)
 
 -- `transmit` of n bytes in buffer b of length l, once nothing stands against it: in READY, while nothing is being received, the send
 -- begins at once
 unfoldable pub begin_transmit : Driver → ℕ → ℕ → ℕ → Outcome
 begin_transmit d b l n =
-    let e = flagged transmitting true (with_buffers (with_tx_len (n + 2) (with_tx (Held b l) d.buffers)) d) in
+    let e = flagged transmitting true (with_buffers (with_tx_len (n + 2) (with_tx (Some (lent b l)) d.buffers)) d) in
     pick (not (flag receiving d.flags) && in_no 29 d) (transition_read TRX_STATUS TX_STATUS_PRECHECK1 e)
     (quiet e (actions []))
 
@@ -54,4 +53,4 @@ receive_buffer_call d b l =
     (pick (ltb l 129) (refused 9 d)
     (pick (rx_full d) (refused 10 d)
     (pick (record_has d.buffers b) (refused 8 d)
-    (quiet (with_buffers (with_rx (Held b l) d.buffers) d) (actions [])))))
+    (quiet (with_buffers (with_rx (Some (lent b l)) d.buffers) d) (actions [])))))

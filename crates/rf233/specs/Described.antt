@@ -1,12 +1,11 @@
 -- What refusal 12 describes of a driver value (document 01, "Who can cause which refusal"), clause by clause.
-use Rattle.std.specs.Prelude.{ℕ, zero, suc, ◌+◌, Bool, false, not, ◌&&◌, ◌||◌, List, [], ◌∷◌, eqb, ltb}
+use Rattle.std.specs.Prelude.{ℕ, zero, suc, ◌+◌, Bool, false, not, ◌&&◌, ◌||◌, List, [], ◌∷◌, eqb, ltb, Option, None, Some, is_some}
 use Rattle.rf233.specs.Choice.{one_of, within}
-use Rattle.rf233.specs.Record.{is_held, one, count_of, record_has, tx_under_way, rx_under_way}
+use Rattle.rf233.specs.Record.{one, count_of, record_has, tx_under_way, rx_under_way}
 use Rattle.rf233.specs.State.{state_no, state_frame}
 use Rattle.rf233.specs.declared.driver.Buffers.{Buffers}
 use Rattle.rf233.specs.declared.driver.Driver.{Driver}
-use Rattle.rf233.specs.declared.driver.Slot.{Slot}
-use Rattle.rf233.specs.declared.driver.Slot.TheVariants.{Empty, Held}
+use Rattle.rf233.specs.declared.driver.Lent.{Lent}
 use Rattle.rf233.specs.declared.driver.Under.{Under}
 use Rattle.rf233.specs.declared.driver.Under.TheVariants.{Idle, Register, FrameRead, FrameWrite}
 
@@ -24,30 +23,30 @@ abbrev pub own_nowhere : Buffers → Bool
 own_nowhere r = not (record_has r 16) || (not (record_has r 17) || not (record_has r 18))
 
 -- a place that names a buffer above 15
-abbrev pub slot_above : Slot → Bool
-slot_above Empty = false
-slot_above (Held c l) = ltb 15 c
+abbrev pub slot_above : Option Lent → Bool
+slot_above None = false
+slot_above (Some x) = ltb 15 x.buffer
 
 -- the client's side of a frame transfer, as a place
-abbrev pub under_slot : Under → Slot
-under_slot Idle = Empty
-under_slot Register = Empty
-under_slot (FrameRead c l) = Held c l
-under_slot (FrameWrite c l) = Held c l
+abbrev pub under_slot : Under → Option Lent
+under_slot Idle = None
+under_slot Register = None
+under_slot (FrameRead x) = Some x
+under_slot (FrameWrite x) = Some x
 
 -- clause: a client's place that names a buffer above 15
 abbrev pub client_above : Buffers → Bool
 client_above r = slot_above r.tx_buf || (slot_above r.rx_buf || slot_above (under_slot r.under))
 
 -- a transmit buffer, with this n, whose length is out of bounds: n 2 to 127 and the buffer's length n + 3 to 160
-abbrev pub tx_length_bad : Slot → ℕ → Bool
-tx_length_bad Empty n = false
-tx_length_bad (Held c l) n = not (within 2 127 n && within (n + 3) 160 l)
+abbrev pub tx_length_bad : Option Lent → ℕ → Bool
+tx_length_bad None n = false
+tx_length_bad (Some x) n = not (within 2 127 n && within (n + 3) 160 x.length)
 
 -- a receive buffer whose length is out of bounds: 129 to 160
-abbrev pub rx_length_bad : Slot → Bool
-rx_length_bad Empty = false
-rx_length_bad (Held c l) = not (within 129 160 l)
+abbrev pub rx_length_bad : Option Lent → Bool
+rx_length_bad None = false
+rx_length_bad (Some x) = not (within 129 160 x.length)
 
 -- clause: a length out of bounds. Of spi_buf 129 to 160, and its present length 2 to that; of a transmit and a receive buffer, held or
 -- under way. A frame transfer's own two lengths are these very values, so nothing more is to be asked of them.
@@ -61,14 +60,14 @@ length_bad r =
 -- clause: a transmit (receive) buffer held while another is under way in a frame write (frame read)
 abbrev pub held_besides : Buffers → Bool
 held_besides r =
-    (is_held r.tx_buf && is_held (tx_under_way r.under)) || (is_held r.rx_buf && is_held (rx_under_way r.under))
+    (is_some r.tx_buf && is_some (tx_under_way r.under)) || (is_some r.rx_buf && is_some (rx_under_way r.under))
 
 -- no frame transfer, a frame read, a frame write
 abbrev pub frame_no : Under → ℕ
 frame_no Idle = 0
 frame_no Register = 0
-frame_no (FrameRead c l) = 1
-frame_no (FrameWrite c l) = 2
+frame_no (FrameRead x) = 1
+frame_no (FrameWrite x) = 2
 
 -- clause: a frame transfer that is not of the kind the state names, or with interrupt handling set; or such a state without its transfer
 abbrev pub frame_unfit : Under → ℕ → Bool → Bool
@@ -77,7 +76,7 @@ frame_unfit u n handling = not (eqb (frame_no u) (state_frame n)) || (ltb 0 (fra
 -- clause: 33 or 43 without a transmit buffer held; 62, 64 or 68 without a receive buffer held
 abbrev pub buffer_missing : Buffers → ℕ → Bool
 buffer_missing r n =
-    (one_of (33 ∷ 43 ∷ []) n && not (is_held r.tx_buf)) || (one_of (62 ∷ 64 ∷ 68 ∷ []) n && not (is_held r.rx_buf))
+    (one_of (33 ∷ 43 ∷ []) n && not (is_some r.tx_buf)) || (one_of (62 ∷ 64 ∷ 68 ∷ []) n && not (is_some r.rx_buf))
 
 -- a driver value that refusal 12 describes
 unfoldable pub described : Driver → Bool
@@ -90,9 +89,9 @@ described d =
 -- The parts in which `is_described` asks this, place by place: `described` is made of them (`regrouped` in proofs/Regrouped.antt).
 
 -- the buffer that a place names, as a list of none or one
-abbrev pub named_in : Slot → List ℕ
-named_in Empty = []
-named_in (Held c l) = c ∷ []
+abbrev pub named_in : Option Lent → List ℕ
+named_in None = []
+named_in (Some x) = x.buffer ∷ []
 
 -- how often a list names buffer b
 abbrev pub times : ℕ → List ℕ → ℕ
@@ -105,22 +104,32 @@ meets [] m = false
 meets (c ∷ l) m = ltb 0 (times c m) || meets l m
 
 -- the two places name the same buffer
-abbrev pub same_buffer : Slot → Slot → Bool
+abbrev pub same_buffer : Option Lent → Option Lent → Bool
 same_buffer x y = meets (named_in x) (named_in y)
 
 -- an own buffer in its own place while the transfer has it, or out of it while it does not
 abbrev pub own_wrong : Under → Buffers → Bool
 own_wrong Idle r = not r.spi_tx || (not r.spi_rx || not r.spi_buf)
 own_wrong Register r = r.spi_tx || (r.spi_rx || not r.spi_buf)
-own_wrong (FrameRead c l) r = r.spi_buf || (not r.spi_tx || not r.spi_rx)
-own_wrong (FrameWrite c l) r = r.spi_buf || (not r.spi_tx || not r.spi_rx)
+own_wrong (FrameRead x) r = r.spi_buf || (not r.spi_tx || not r.spi_rx)
+own_wrong (FrameWrite x) r = r.spi_buf || (not r.spi_tx || not r.spi_rx)
 
 -- of a frame transfer, the own buffers and the state apart: interrupt handling set, a buffer of its kind held besides, its client's buffer
 -- not a client's, with a length out of bounds, or the one held of the other kind
-abbrev pub frame_bad : Under → Slot → Slot → ℕ → Bool → Bool
+abbrev pub frame_bad : Under → Option Lent → Option Lent → ℕ → Bool → Bool
 frame_bad Idle tx rx n handling = false
 frame_bad Register tx rx n handling = false
-frame_bad (FrameRead c l) tx rx n handling =
-    handling || (is_held rx || ((slot_above (Held c l) || rx_length_bad (Held c l)) || same_buffer tx (Held c l)))
-frame_bad (FrameWrite c l) tx rx n handling =
-    handling || (is_held tx || ((slot_above (Held c l) || tx_length_bad (Held c l) n) || same_buffer rx (Held c l)))
+frame_bad (FrameRead x) tx rx n handling =
+    handling || (is_some rx || ((slot_above (Some x) || rx_length_bad (Some x)) || same_buffer tx (Some x)))
+frame_bad (FrameWrite x) tx rx n handling =
+    handling || (is_some tx || ((slot_above (Some x) || tx_length_bad (Some x) n) || same_buffer rx (Some x)))
+
+-- all of it: the two lengths of spi_buf, each place, the transfer under way, the state
+abbrev pub by_place : Driver → Bool
+by_place d =
+    let r = d.buffers in
+    let n = state_no d.state in
+    not (within 129 160 r.spi_buf_whole) || (not (within 2 r.spi_buf_whole r.spi_buf_len)
+    || ((slot_above r.tx_buf || tx_length_bad r.tx_buf r.tx_len) || ((slot_above r.rx_buf || rx_length_bad r.rx_buf)
+    || (same_buffer r.tx_buf r.rx_buf || ((own_wrong r.under r || frame_bad r.under r.tx_buf r.rx_buf r.tx_len d.flags.interrupt_handling)
+    || (not (eqb (frame_no r.under) (state_frame n)) || buffer_missing r n))))))

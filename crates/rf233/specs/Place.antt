@@ -2,6 +2,8 @@
 use Rattle.std.specs.Prelude.{ℕ, Bool, cond, List, [], ◌∷◌}
 use Rattle.rf233.specs.Record.{slot_has, under_has, own_has}
 use Rattle.rf233.specs.declared.driver.Buffers.{Buffers}
+use Rattle.rf233.specs.declared.place.Place.{Place}
+use Rattle.rf233.specs.declared.place.Place.TheVariants.{Client, Own, Transmit, Receive, Transfer}
 
 -- with the client
 abbrev pub client_place : ℕ
@@ -22,6 +24,14 @@ receive_place = 3
 -- the transfer under way
 abbrev pub transfer_place : ℕ
 transfer_place = 4
+
+-- the number of a place
+abbrev pub place_no : Place → ℕ
+place_no Client = client_place
+place_no Own = own_place
+place_no Transmit = transmit_place
+place_no Receive = receive_place
+place_no Transfer = transfer_place
 
 -- the list with p in front where the test holds
 abbrev pub when : Bool → ℕ → List ℕ → List ℕ

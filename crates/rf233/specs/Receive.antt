@@ -5,7 +5,6 @@ use Rattle.rf233_const.specs.declared.trx_state.RF233TrxCmd.TheVariants as cmd
 use Rattle.rf233.specs.Choice.{pick}
 use Rattle.rf233.specs.Driver.{flag}
 use Rattle.rf233.specs.Driver.Assignment.{put, put_crc}
-use Rattle.rf233.specs.Driver.Client.{rx_client}
 use Rattle.rf233.specs.Driver.Flag.{transmitting, receiving, interrupt_handling, sleep_pending}
 use Rattle.rf233.specs.Record.{buffer_in}
 use Rattle.rf233.specs.Rows.{Shown, Tree, stay, read, onward, commands}
@@ -19,6 +18,7 @@ use Rattle.rf233.specs.Step.{transition_read}
 use Rattle.rf233.specs.declared.action.Action.{Action}
 use Rattle.rf233.specs.declared.action.Action.TheVariants.{Received}
 use Rattle.rf233.specs.declared.answer.Outcome.{Outcome}
+use Rattle.rf233.specs.declared.driver.Client.TheVariants as listener
 use Rattle.rf233.specs.declared.driver.Driver.{Driver}
 use Rattle.rf233.specs.declared.state.InternalState.{InternalState}
 use Rattle.rf233.specs.declared.state.InternalState.TheVariants.{READY, TX_STATUS_PRECHECK1}
@@ -57,5 +57,5 @@ receive_trees =
     ∷ stay
     ∷ read PHY_RSSI state.RX_READING_FRAME_FCS_DONE
     ∷ leaf (does (put_crc ∷ []) (commands cmd.RX_AACK_ON) (to state.RX_ENABLING_RECEPTION) [])
-    ∷ ask (listens rx_client) (onward (reception_over (received_back ∷ []))) (onward (reception_over []))
+    ∷ ask (listens listener.Receive) (onward (reception_over (received_back ∷ []))) (onward (reception_over []))
     ∷ []

@@ -1,33 +1,31 @@
 -- The driver's record of its buffers: what each place has, and at how many places a buffer is.
-use Rattle.std.specs.Prelude.{ℕ, ◌+◌, Bool, true, false, ◌&&◌, ◌||◌, eqb, ltb}
+use Rattle.std.specs.Prelude.{ℕ, ◌+◌, Bool, true, false, ◌&&◌, ◌||◌, eqb, ltb, Option, None, Some}
 use Rattle.rf233.specs.declared.driver.Buffers.{Buffers}
-use Rattle.rf233.specs.declared.driver.Slot.{Slot}
-use Rattle.rf233.specs.declared.driver.Slot.TheVariants.{Empty, Held}
+use Rattle.rf233.specs.declared.driver.Lent.{Lent}
 use Rattle.rf233.specs.declared.driver.Under.{Under}
 use Rattle.rf233.specs.declared.driver.Under.TheVariants.{Idle, Register, FrameRead, FrameWrite}
 
--- the place is full
-abbrev pub is_held : Slot → Bool
-is_held Empty = false
-is_held (Held b l) = true
+-- buffer b, lent at length l
+abbrev pub lent : ℕ → ℕ → Lent
+lent b l = record { buffer = b; length = l }
 
 -- the buffer in a place. Where the Rust says `unwrap` the place is full: for every driver value that 12 does not describe the row that is
 -- carried out finds it so (`unwrap_holds` in proofs/FullPlace.antt), and no notice names the 0 of an empty place
-abbrev pub buffer_in : Slot → ℕ
-buffer_in Empty = 0
-buffer_in (Held b l) = b
+abbrev pub buffer_in : Option Lent → ℕ
+buffer_in None = 0
+buffer_in (Some x) = x.buffer
 
 -- the place has buffer b
-abbrev pub slot_has : Slot → ℕ → Bool
-slot_has Empty b = false
-slot_has (Held c l) b = eqb c b
+abbrev pub slot_has : Option Lent → ℕ → Bool
+slot_has None b = false
+slot_has (Some x) b = eqb x.buffer b
 
 -- the transfer under way has buffer b: of a register transfer 16 and 17, of a frame transfer 18 and the client's
 abbrev pub under_has : Under → ℕ → Bool
 under_has Idle b = false
 under_has Register b = eqb 16 b || eqb 17 b
-under_has (FrameRead c l) b = eqb 18 b || eqb c b
-under_has (FrameWrite c l) b = eqb 18 b || eqb c b
+under_has (FrameRead x) b = eqb 18 b || eqb x.buffer b
+under_has (FrameWrite x) b = eqb 18 b || eqb x.buffer b
 
 -- b is an own buffer, in its own place
 abbrev pub own_has : Buffers → ℕ → Bool
@@ -47,15 +45,15 @@ abbrev pub record_has : Buffers → ℕ → Bool
 record_has r b = ltb 0 (count_of r b)
 
 -- the transmit buffer under way, as a place
-abbrev pub tx_under_way : Under → Slot
-tx_under_way Idle = Empty
-tx_under_way Register = Empty
-tx_under_way (FrameRead c l) = Empty
-tx_under_way (FrameWrite c l) = Held c l
+abbrev pub tx_under_way : Under → Option Lent
+tx_under_way Idle = None
+tx_under_way Register = None
+tx_under_way (FrameRead x) = None
+tx_under_way (FrameWrite x) = Some x
 
 -- the receive buffer under way, as a place
-abbrev pub rx_under_way : Under → Slot
-rx_under_way Idle = Empty
-rx_under_way Register = Empty
-rx_under_way (FrameRead c l) = Held c l
-rx_under_way (FrameWrite c l) = Empty
+abbrev pub rx_under_way : Under → Option Lent
+rx_under_way Idle = None
+rx_under_way Register = None
+rx_under_way (FrameRead x) = Some x
+rx_under_way (FrameWrite x) = None

@@ -9,10 +9,11 @@ use Rattle.rf233_const.specs.declared.status.ExternalState.{ExternalState}
 use Rattle.rf233_const.specs.declared.status.ExternalState.TheVariants as external
 use Rattle.rf233_const.specs.declared.trx_state.RF233TrxCmd.{RF233TrxCmd}
 use Rattle.rf233.specs.Choice.{pick, one_of, within}
-use Rattle.rf233.specs.Driver.{Flag, Client, Assignment, flag, client}
+use Rattle.rf233.specs.Driver.{Flag, Assignment, flag, client}
 use Rattle.rf233.specs.Driver.Flag.{transmitting}
 use Rattle.rf233.specs.declared.action.Action.{Action}
 use Rattle.rf233.specs.declared.arrived.Arrived.{Arrived}
+use Rattle.rf233.specs.declared.driver.Client.{Client}
 use Rattle.rf233.specs.declared.driver.Driver.{Driver}
 use Rattle.rf233.specs.declared.state.InternalState.{InternalState}
 use Rattle.rf233.specs.declared.state.InternalState.TheVariants.{READY, TX_STATUS_PRECHECK1}

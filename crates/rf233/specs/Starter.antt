@@ -1,45 +1,46 @@
 -- The starters of document 01's four transfers: what each sends, its lengths, the buffers that it takes, and its answer: that it began, or
 -- found a transfer under way. One that lacks a buffer, which 12 describes, answers as if one were under way.
-use Rattle.std.specs.Prelude.{ℕ, ◌+◌, false, ◌&&◌}
+use Rattle.std.specs.Prelude.{ℕ, ◌+◌, false, ◌&&◌, Option, None, Some}
 use Rattle.rf233_const.specs.Command as command
 use Rattle.rf233_const.specs.Register.{register_address}
 use Rattle.rf233_const.specs.declared.register.RF233Register.{RF233Register}
 use Rattle.rf233.specs.Choice.{pick}
 use Rattle.rf233.specs.Driver.{with_buffers, with_registers, with_spi_buf, with_spi_buf_len, with_tx, with_rx, with_under}
-use Rattle.rf233.specs.Transfer.{transfer_of, no_transfer, free_to_start}
+use Rattle.rf233.specs.Transfer.{transfer_of, free_to_start}
 use Rattle.rf233.specs.declared.driver.Buffers.{Buffers}
 use Rattle.rf233.specs.declared.driver.Driver.{Driver}
-use Rattle.rf233.specs.declared.driver.Slot.{Slot}
-use Rattle.rf233.specs.declared.driver.Slot.TheVariants.{Empty, Held}
+use Rattle.rf233.specs.declared.driver.Lent.{Lent}
 use Rattle.rf233.specs.declared.driver.Under.{Under}
 use Rattle.rf233.specs.declared.driver.Under.TheVariants.{Idle, Register, FrameRead, FrameWrite}
 use Rattle.rf233.specs.declared.starter.Started.{Started}
 use Rattle.rf233.specs.declared.starter.StarterAnswer.{StarterAnswer}
 use Rattle.rf233.specs.declared.starter.StarterAnswer.TheVariants.{Began, UnderWay}
 use Rattle.rf233.specs.declared.transfer.Transfer.{Transfer}
+use Rattle.rf233.specs.declared.transfer.TransferKind.{TransferKind}
+use Rattle.rf233.specs.declared.transfer.TransferKind.TheVariants as kind
 
 -- the record once a transfer has taken its buffers: 16 and 17, or 18 and the one in the receive or the transmit place
 abbrev pub buffers_away : Under → Buffers → Buffers
 buffers_away Idle b = b
 buffers_away Register b = with_under Register (with_registers false b)
-buffers_away (FrameRead c l) b = with_under (FrameRead c l) (with_rx Empty (with_spi_buf false b))
-buffers_away (FrameWrite c l) b = with_under (FrameWrite c l) (with_tx Empty (with_spi_buf false b))
+buffers_away (FrameRead x) b = with_under (FrameRead x) (with_rx None (with_spi_buf false b))
+buffers_away (FrameWrite x) b = with_under (FrameWrite x) (with_tx None (with_spi_buf false b))
 
 -- a transfer is under way, and nothing begins
 abbrev pub refrains : Driver → Started
-refrains d = record { answer = UnderWay; driver = d; transfer = no_transfer }
+refrains d = record { answer = UnderWay; driver = d }
 
 -- a transfer begins, and the record is then b
 abbrev pub begins : Transfer → Buffers → Driver → Started
-begins t b d = record { answer = Began; driver = with_buffers b d; transfer = t }
+begins t b d = record { answer = Began t; driver = with_buffers b d }
 
 -- the transfer that a starter's answer gives: where it began the one that it began, else none
-abbrev pub begun : StarterAnswer → Transfer → Transfer
-begun Began t = t
-begun UnderWay t = no_transfer
+abbrev pub begun : StarterAnswer → Option Transfer
+begun (Began t) = Some t
+begun UnderWay = None
 
 -- a register transfer: two bytes from buffer 16, two into buffer 17
-unfoldable pub register_transfer : ℕ → ℕ → ℕ → Driver → Started
+unfoldable pub register_transfer : TransferKind → ℕ → ℕ → Driver → Started
 register_transfer k first second d =
     let b = d.buffers in
     pick ((free_to_start b && b.spi_tx) && b.spi_rx)
@@ -48,20 +49,21 @@ register_transfer k first second d =
 
 -- register read: 0x80 + register, 0
 abbrev pub register_read : RF233Register → Driver → Started
-register_read reg d = register_transfer 1 (command.register_read (register_address reg)) 0 d
+register_read reg d = register_transfer kind.RegisterRead (command.register_read (register_address reg)) 0 d
 
 -- register write: 0xC0 + register, value
 abbrev pub register_write : RF233Register → ℕ → Driver → Started
-register_write reg v d = register_transfer 2 (command.register_write (register_address reg)) v d
+register_write reg v d = register_transfer kind.RegisterWrite (command.register_write (register_address reg)) v d
 
 -- frame read of n into this place, which is full where a row asks for it (`unwrap_holds` in proofs/FullPlace.antt): 0x20 and whatever
 -- stands in buffer 18, 2 + n bytes, the length that 18 then has; into the buffer there, at its own length
-unfoldable pub frame_read_into : Slot → ℕ → Driver → Started
-frame_read_into Empty n d = refrains d
-frame_read_into (Held c l) n d =
+unfoldable pub frame_read_into : Option Lent → ℕ → Driver → Started
+frame_read_into None n d = refrains d
+frame_read_into (Some x) n d =
     let b = d.buffers in
     pick (free_to_start b && b.spi_buf)
-    (begins (transfer_of 3 18 c command.frame_read n (n + 2) l) (with_spi_buf_len (n + 2) (buffers_away (FrameRead c l) b)) d)
+    (begins (transfer_of kind.FrameRead 18 x.buffer command.frame_read n (n + 2) x.length)
+    (with_spi_buf_len (n + 2) (buffers_away (FrameRead x) b)) d)
     (refrains d)
 
 -- frame read of n, into the receive buffer
@@ -70,13 +72,13 @@ frame_read n d = frame_read_into d.buffers.rx_buf n d
 
 -- frame write of n from this place, likewise full: 0x60, n and the frame from the buffer there, 2 + n bytes; into buffer 18, at the length
 -- that it has
-unfoldable pub frame_write_from : Slot → Driver → Started
-frame_write_from Empty d = refrains d
-frame_write_from (Held c l) d =
+unfoldable pub frame_write_from : Option Lent → Driver → Started
+frame_write_from None d = refrains d
+frame_write_from (Some x) d =
     let b = d.buffers in
     let n = b.tx_len in
     pick (free_to_start b && b.spi_buf)
-    (begins (transfer_of 4 c 18 command.frame_write n (n + 2) b.spi_buf_len) (buffers_away (FrameWrite c l) b) d)
+    (begins (transfer_of kind.FrameWrite x.buffer 18 command.frame_write n (n + 2) b.spi_buf_len) (buffers_away (FrameWrite x) b) d)
     (refrains d)
 
 -- frame write of the transmit buffer

@@ -1,11 +1,10 @@
 -- A step that is done, one that starts nothing, the steps of a register transfer (the Rust's `state_transition_read`,
 -- `state_transition_write`), and a step with its actions.
-use Rattle.std.specs.Prelude.{ℕ, []}
+use Rattle.std.specs.Prelude.{ℕ, [], Option, None}
 use Rattle.rf233_const.specs.declared.register.RF233Register.{RF233Register}
 use Rattle.rf233.specs.Action.{actions}
 use Rattle.rf233.specs.Driver.{with_state}
 use Rattle.rf233.specs.Starter.{begun, register_read, register_write}
-use Rattle.rf233.specs.Transfer.{no_transfer}
 use Rattle.rf233.specs.declared.action.Actions.{Actions}
 use Rattle.rf233.specs.declared.answer.Answer.TheVariants.{Done}
 use Rattle.rf233.specs.declared.answer.Outcome.{Outcome}
@@ -15,16 +14,16 @@ use Rattle.rf233.specs.declared.state.InternalState.{InternalState}
 use Rattle.rf233.specs.declared.transfer.Transfer.{Transfer}
 
 -- a step that is done, of these parts
-abbrev pub done_step : Driver → Transfer → Actions → Outcome
+abbrev pub done_step : Driver → Option Transfer → Actions → Outcome
 done_step d t l = record { driver = d; reply = record { answer = Done; transfer = t; actions = l } }
 
 -- the step of a starter, which its answer decides, with these actions
 abbrev pub step_of : Started → Actions → Outcome
-step_of s l = done_step s.driver (begun s.answer s.transfer) l
+step_of s l = done_step s.driver (begun s.answer) l
 
 -- a step that starts nothing
 abbrev pub quiet : Driver → Actions → Outcome
-quiet d l = done_step d no_transfer l
+quiet d l = done_step d None l
 
 -- a register read, and the next state
 abbrev pub transition_read : RF233Register → InternalState → Driver → Outcome
@@ -36,5 +35,4 @@ transition_write r v n d = step_of (register_write r v (with_state n d)) (action
 
 -- the step with these actions
 abbrev pub with_actions : Actions → Outcome → Outcome
-with_actions l o =
-    record { driver = o.driver; reply = record { answer = o.reply.answer; transfer = o.reply.transfer; actions = l } }
+with_actions l o = record o { reply = record o.reply { actions = l } }

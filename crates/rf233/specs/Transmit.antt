@@ -1,11 +1,10 @@
 -- Transmission, the states 33 to 44, and the notice of a sent frame.
-use Rattle.std.specs.Prelude.{ℕ, Bool, true, false, List, [], ◌∷◌, eqb}
+use Rattle.std.specs.Prelude.{ℕ, Bool, true, false, List, [], ◌∷◌, eqb, Option}
 use Rattle.rf233_const.specs.TrxState.{trac_bits, trac_success, trac_channel_access_failure}
 use Rattle.rf233_const.specs.declared.register.RF233Register.TheVariants.{TRX_STATUS, TRX_STATE}
 use Rattle.rf233_const.specs.declared.status.ExternalState.TheVariants as external
 use Rattle.rf233_const.specs.declared.trx_state.RF233TrxCmd.TheVariants as cmd
 use Rattle.rf233.specs.Driver.Assignment.{put}
-use Rattle.rf233.specs.Driver.Client.{tx_client}
 use Rattle.rf233.specs.Driver.Flag.{transmitting, receiving}
 use Rattle.rf233.specs.Record.{buffer_in}
 use Rattle.rf233.specs.Rows.{Access, Shown, Tree, status_is, status_busy, stay, enter, read, order, commands}
@@ -17,7 +16,8 @@ use Rattle.rf233.specs.Rows.Test.{listens}
 use Rattle.rf233.specs.Rows.Tree.{leaf, ask}
 use Rattle.rf233.specs.declared.action.Action.{Action}
 use Rattle.rf233.specs.declared.action.Action.TheVariants.{Sent}
-use Rattle.rf233.specs.declared.driver.Slot.{Slot}
+use Rattle.rf233.specs.declared.driver.Client.TheVariants as listener
+use Rattle.rf233.specs.declared.driver.Lent.{Lent}
 use Rattle.rf233.specs.declared.state.InternalState.{InternalState}
 use Rattle.rf233.specs.declared.state.InternalState.TheVariants.{READY, RX}
 use Rattle.rf233.specs.declared.state.InternalState.TheVariants as state
@@ -31,7 +31,7 @@ abbrev pub failed : ℕ → Bool
 failed result = eqb (trac_bits result) trac_channel_access_failure
 
 -- the notice of a sent frame, whose buffer is in this place
-abbrev pub send_done : Slot → ℕ → Action
+abbrev pub send_done : Option Lent → ℕ → Action
 send_done x result = Sent (buffer_in x) (acknowledged result) (failed result)
 
 -- 38: the radio is on its way to transmitting
@@ -57,7 +57,7 @@ transmit_trees =
     ∷ stay
     ∷ read TRX_STATE state.TX_RETURN_TO_RX
     ∷ order cmd.RX_AACK_ON state.TX_READ_ACK
-    ∷ ask (status_is external.RX_AACK_ON) (ask (listens tx_client) (sent_then sent_back) (sent_then dropped_back))
+    ∷ ask (status_is external.RX_AACK_ON) (ask (listens listener.Transmit) (sent_then sent_back) (sent_then dropped_back))
     (read TRX_STATUS state.TX_RETURN_TO_RX)
     ∷ stay
     ∷ []

@@ -1,11 +1,11 @@
 // What a step asks of the pins and tells the listeners: at most six actions, in order.
-ghost use Rattle.std.specs.Prelude.{◌≡◌, [], ◌∷◌};
-ghost use Rattle.rf233.specs.Action.{actions, padded};
+ghost use Rattle.std.specs.Prelude.{◌≡◌, ◌≤◌, [], ◌∷◌};
+ghost use Rattle.rf233.specs.Action.{actions};
 
 // One thing that is asked of a pin or told to a listener.
-#[derive(Clone, Copy)]
+#[derive(Clone, Copy, PartialEq, Eq)]
 pub enum Action {
-    // No action: what fills the list past its count.
+    // No action: what fills the list past its count. A place of Option<Action> would say the same with a `Some` around each action.
     Nothing,
     // The power listener: whether the radio is on.
     Power(bool),
@@ -30,56 +30,35 @@ pub enum Action {
     ResetSet,
 }
 
-// An action as an element of a list.
-#[derive(Clone, Copy)]
-pub struct Item {
-    pub action: Action,
-}
-
-// How many actions there are, and six places for them.
+// How many actions there are, and six places for them. The count stands beside places of a fixed number: a reply is Copy and goes by value,
+// without heap, and the kit's ArrayVec is not Copy.
 #[derive(Clone, Copy)]
 pub struct Actions {
     pub count: u8,
-    pub items: [Item; 6],
+    pub items: [Action; 6],
 }
 
-// The list of the first `count` of these; the others are `Nothing`.
-pub(crate) fn action_list(
-    count: u8,
-    a: Action,
-    b: Action,
-    c: Action,
-    d: Action,
-    e: Action,
-) -> Actions
-    ensures { result ≡ padded count (a ∷ b ∷ c ∷ d ∷ e ∷ Action.Nothing ∷ []) }
-{
-    let n = Action::Nothing;
-    Actions {
-        count: count,
-        items: [
-            Item { action: a },
-            Item { action: b },
-            Item { action: c },
-            Item { action: d },
-            Item { action: e },
-            Item { action: n },
-        ],
+impl Actions {
+    // The empty list.
+    pub fn none() -> Actions
+        ensures { result ≡ actions [] }
+    {
+        Actions {
+            count: 0,
+            items: [Action::Nothing; 6],
+        }
     }
-}
 
-// The empty list.
-pub fn no_actions() -> Actions
-    ensures { result ≡ actions [] }
-{
-    let n = Action::Nothing;
-    action_list(0, n, n, n, n, n)
-}
-
-// The list of one action.
-pub(crate) fn one_action(a: Action) -> Actions
-    ensures { result ≡ actions (a ∷ []) }
-{
-    let n = Action::Nothing;
-    action_list(1, a, n, n, n, n)
+    // The list of these actions; past them stands `Nothing`.
+    pub(crate) fn of<const N: usize>(list: [Action; N]) -> Actions
+        requires { N ≤ 6 }
+        ensures { result ≡ actions list.entry }
+    {
+        let mut items = [Action::Nothing; 6];
+        items[..N].copy_from_slice(&list);
+        Actions {
+            count: N as u8,
+            items,
+        }
+    }
 }

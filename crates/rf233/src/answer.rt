@@ -1,38 +1,49 @@
 // What a call answers: done, or one of document 01's refusals; and what a call yields beside the driver.
-ghost use Rattle.std.specs.Prelude.{◌≡◌};
+ghost use Rattle.std.specs.Prelude.{◌≡◌, []};
+ghost use Rattle.rf233.specs.Action.{actions};
 ghost use Rattle.rf233.specs.Answer.{answer_no, refused};
+ghost use Rattle.rf233.specs.Step.{quiet, with_actions};
 
-use crate::action::{Actions, no_actions};
-use crate::arrived::Arrived;
+use crate::action::Actions;
 use crate::driver::Driver;
-use crate::transfer::{Transfer, no_transfer};
+use crate::transfer::Transfer;
 
-// Document 01's answers, in the order of their numbers.
-#[derive(Clone, Copy)]
+// Document 01's answers, with their numbers: 0, or the refusal's. No Result: `Done` is one of document 01's numbers, and the book has to be
+// able to see a refusal that comes with a transfer or an action, which a Result could not say.
+#[derive(Clone, Copy, PartialEq, Eq)]
 pub enum Answer {
-    Done,
-    Off,
-    Busy,
-    Size,
-    Long,
-    Inval,
-    Already,
-    Handle,
-    Held,
-    Short,
-    Full,
-    Idle,
-    Pool,
-    Arrived,
-    Configure,
-    New,
+    Done = 0,
+    Off = 1,
+    Busy = 2,
+    Size = 3,
+    Long = 4,
+    Inval = 5,
+    Already = 6,
+    Handle = 7,
+    Held = 8,
+    Short = 9,
+    Full = 10,
+    Idle = 11,
+    Pool = 12,
+    Arrived = 13,
+    Configure = 14,
+    New = 15,
 }
 
-// What a call yields: its answer, the transfer that it started, its actions.
+// The number of each.
+impl From<Answer> for u8 {
+    ghost from_gives = { λ answer n. n ≡ answer_no answer };
+
+    fn from(answer: Answer) -> u8 {
+        answer as u8
+    }
+}
+
+// What a call yields: its answer, the transfer that it started, if any, its actions.
 #[derive(Clone, Copy)]
 pub struct Reply {
     pub answer: Answer,
-    pub transfer: Transfer,
+    pub transfer: Option<Transfer>,
     pub actions: Actions,
 }
 
@@ -43,42 +54,33 @@ pub struct Outcome {
     pub reply: Reply,
 }
 
-// Document 01's number of an answer: 0, or the refusal's.
-pub fn answer_number(answer: Answer) -> u8
-    ensures { result ≡ answer_no answer }
-{
-    match answer {
-        Answer::Done => 0,
-        Answer::Off => 1,
-        Answer::Busy => 2,
-        Answer::Size => 3,
-        Answer::Long => 4,
-        Answer::Inval => 5,
-        Answer::Already => 6,
-        Answer::Handle => 7,
-        Answer::Held => 8,
-        Answer::Short => 9,
-        Answer::Full => 10,
-        Answer::Idle => 11,
-        Answer::Pool => 12,
-        Answer::Arrived => 13,
-        Answer::Configure => 14,
-        Answer::New => 15,
+impl Outcome {
+    // This answer alone: no transfer, no actions, the driver as it is given. All refusals are made so.
+    pub(crate) fn answered(answer: Answer, driver: Driver) -> Outcome
+        ensures { result ≡ refused (answer_no answer) driver }
+    {
+        Outcome {
+            driver,
+            reply: Reply {
+                answer,
+                transfer: None,
+                actions: Actions::none(),
+            },
+        }
     }
-}
 
-// A refusal: no transfer, no actions, the driver as it is given.
-pub(crate) fn refuse(answer: Answer, driver: Driver) -> Outcome
-    ensures { result ≡ refused (answer_no answer) driver }
-{
-    let none = no_transfer();
-    let silent = no_actions();
-    Outcome {
-        driver: driver,
-        reply: Reply {
-            answer: answer,
-            transfer: none,
-            actions: silent,
-        },
+    // Done: nothing is started, and nothing is asked for.
+    pub fn done(driver: Driver) -> Outcome
+        ensures { result ≡ quiet driver (actions []) }
+    {
+        Outcome::answered(Answer::Done, driver)
+    }
+
+    // The same with these actions.
+    pub(crate) fn with_actions(mut self, actions: Actions) -> Outcome
+        ensures { result ≡ with_actions actions self }
+    {
+        self.reply.actions = actions;
+        self
     }
 }

@@ -3,13 +3,12 @@ ghost use Rattle.std.specs.Prelude.{◌≡◌, ◌≤◌};
 ghost use Rattle.rf233.specs.Case.{own_case};
 ghost use Rattle.rf233.specs.State.{state_no};
 
-use crate::action::{Action, one_action};
+use crate::action::{Action, Actions};
 use crate::answer::Outcome;
 use crate::arrived::Arrived;
-use crate::driver::{Driver, with_flags};
-use crate::state::{InternalState, state_number};
-use crate::step::{state_transition_read, with_actions};
-use crate::write::{Value, Write, table_write};
+use crate::driver::Driver;
+use crate::state::InternalState;
+use crate::write::{Value, Write};
 use rf233_const::register::RF233Register;
 
 // What is written in the states CONFIG_SHORT0_SET to CONFIG_POWER_SET, 45 to 57.
@@ -81,32 +80,28 @@ const COMMIT: [Write; 13] = [
     },
 ];
 
-// CONFIG_SHORT0_SET to CONFIG_POWER_SET: each has a row of its own.
-pub fn commit_case(d: Driver, a: Arrived) -> Outcome
-    requires { (45 ≤ state_no d.state) × (state_no d.state ≤ 57) }
-    ensures { result ≡ own_case a d }
-{
-    let s = d.state;
-    let n = state_number(s) as usize;
-    table_write(d, COMMIT[n - 45])
-}
-
-// The end of a commit: its listener is told.
-#[tactic(auto, unfolding(crate::specs::Case::case_of, crate::specs::Case::tree_at, crate::specs::Case::trees, crate::specs::Rows::eval, crate::specs::Case::perform, crate::specs::Choice::pick))]
-pub fn config_done(d: Driver, a: Arrived) -> Outcome
-    requires { state_no d.state ≡ 58 }
-    ensures { result ≡ own_case a d }
-{
-    let clients = d.clients;
-    let mut flags = d.flags;
-    flags.config_pending = false;
-    let read = state_transition_read(
-        with_flags(d, flags),
-        RF233Register::TRX_STATUS,
-        InternalState::READY,
-    );
-    if clients.cfg_client {
-        return with_actions(read, one_action(Action::ConfigDone));
+impl Driver {
+    // CONFIG_SHORT0_SET to CONFIG_POWER_SET: each has a row of its own.
+    pub(crate) fn commit_case(self, a: Arrived) -> Outcome
+        requires first { 45 ≤ state_no self.state }
+        requires last { state_no self.state ≤ 57 }
+        ensures { result ≡ own_case a self }
+    {
+        self.table_write(COMMIT[u8::from(self.state) as usize - 45])
     }
-    read
+
+    // The end of a commit: its listener is told.
+    #[tactic(auto, unfolding(crate::specs::Case::case_of, crate::specs::Case::tree_at, crate::specs::Case::trees, crate::specs::Rows::eval, crate::specs::Case::perform, crate::specs::Choice::pick))]
+    pub(crate) fn config_done(mut self, a: Arrived) -> Outcome
+        requires { state_no self.state ≡ 58 }
+        ensures { result ≡ own_case a self }
+    {
+        self.flags.config_pending = false;
+        let read = self.state_transition_read(RF233Register::TRX_STATUS, InternalState::READY);
+        if self.clients.cfg_client {
+            read.with_actions(Actions::of([Action::ConfigDone]))
+        } else {
+            read
+        }
+    }
 }

@@ -17,272 +17,244 @@ ghost use Rattle.rf233.specs.Config.{
   stop_call,
 };
 
-use crate::action::{Action, action_list};
-use crate::answer::{Answer, Outcome, refuse};
-use crate::driver::{Driver, with_flags, with_settings};
-use crate::guard::{finish, pool_fault};
+use crate::action::{Action, Actions};
+use crate::answer::{Answer, Outcome};
+use crate::driver::Driver;
 use crate::power::power_fits;
-use crate::state::{InternalState, is_ready};
-use crate::step::{quiet_step, state_transition_read, state_transition_write, stay, trx_command};
-use crate::write::{Value, value_of};
+use crate::state::InternalState;
+use crate::write::Value;
 use rf233_const::register::RF233Register;
 use rf233_const::trx_state::RF233TrxCmd;
-
-// From SLEEP the radio is woken; on a new driver PART_NUM is read. A starter that finds a transfer under way does nothing.
-#[tactic(auto, unfolding(crate::specs::Config::begin_start, crate::specs::Choice::pick))]
-fn begin_start(d: Driver) -> Outcome
-    ensures { result ≡ begin_start d }
-{
-    let s = d.state;
-    match s {
-        InternalState::SLEEP => state_transition_read(
-            d,
-            RF233Register::TRX_STATUS,
-            InternalState::SLEEP_WAKE,
-        ),
-        _ => {
-            let mut flags = d.flags;
-            flags.wake_pending = true;
-            state_transition_read(with_flags(d, flags), RF233Register::PART_NUM, s)
-        }
-    }
-}
-
-// Starts the radio, or wakes it.
-#[tactic(auto, unfolding(crate::specs::Config::start_call, crate::specs::Choice::pick))]
-pub fn start(d: Driver, pool: &mut [u8]) -> Outcome
-    ensures { (result ≡ (start_call d pool.old).outcome) × (pool.new ≡ (start_call d pool.old).pool) }
-{
-    if pool_fault(d, pool.len()) {
-        return refuse(Answer::Pool, d);
-    }
-    let s = d.state;
-    let mut flags = d.flags;
-    flags.sleep_pending = false;
-    let e = with_flags(d, flags);
-    match s {
-        InternalState::START | InternalState::SLEEP => finish(begin_start(e), pool),
-        _ => refuse(Answer::Already, e),
-    }
-}
-
-// In READY and ON_PLL_WAITING the radio is turned off; elsewhere the stop waits for READY.
-#[tactic(auto, unfolding(crate::specs::Config::begin_stop, crate::specs::Choice::pick))]
-fn begin_stop(d: Driver) -> Outcome
-    ensures { result ≡ begin_stop d }
-{
-    let s = d.state;
-    let mut flags = d.flags;
-    match s {
-        InternalState::ON_PLL_WAITING | InternalState::READY => {
-            flags.radio_on = false;
-            trx_command(
-                with_flags(d, flags),
-                RF233TrxCmd::OFF,
-                InternalState::SLEEP_TRX_OFF,
-            )
-        }
-        _ => {
-            flags.sleep_pending = true;
-            stay(with_flags(d, flags))
-        }
-    }
-}
-
-// Turns the radio off, at once or once it is READY.
-#[tactic(auto, unfolding(crate::specs::Config::stop_call, crate::specs::Choice::pick))]
-pub fn stop(d: Driver, pool: &mut [u8]) -> Outcome
-    ensures { (result ≡ (stop_call d pool.old).outcome) × (pool.new ≡ (stop_call d pool.old).pool) }
-{
-    if pool_fault(d, pool.len()) {
-        return refuse(Answer::Pool, d);
-    }
-    let s = d.state;
-    match s {
-        InternalState::SLEEP_TRX_OFF | InternalState::SLEEP => refuse(Answer::Already, d),
-        _ => finish(begin_stop(d), pool),
-    }
-}
-
-// A commit starts in READY; elsewhere it waits. One that is pending already is left alone.
-#[tactic(auto, unfolding(crate::specs::Config::begin_commit, crate::specs::Choice::pick))]
-fn begin_commit(d: Driver) -> Outcome
-    ensures { result ≡ begin_commit d }
-{
-    let mut flags = d.flags;
-    if flags.config_pending {
-        return stay(d);
-    }
-    flags.config_pending = true;
-    let e = with_flags(d, flags);
-    let s = d.state;
-    if is_ready(s) {
-        let settings = d.settings;
-        let low = value_of(settings, Value::AddrLow);
-        return state_transition_write(
-            e,
-            RF233Register::SHORT_ADDR_0,
-            low,
-            InternalState::CONFIG_SHORT0_SET,
-        );
-    }
-    stay(e)
-}
-
-// Writes the settings to the radio, at once or once it is READY.
-#[tactic(auto, unfolding(crate::specs::Config::commit_call, crate::specs::Choice::pick))]
-pub fn config_commit(d: Driver, pool: &mut [u8]) -> Outcome
-    ensures { (result ≡ (commit_call d pool.old).outcome) × (pool.new ≡ (commit_call d pool.old).pool) }
-{
-    if pool_fault(d, pool.len()) {
-        return refuse(Answer::Pool, d);
-    }
-    finish(begin_commit(d), pool)
-}
-
-// Resets the radio by its pins. The kernel has configured the SPI just before, and says whether that went well.
-#[tactic(auto, unfolding(crate::specs::Config::reset_call, crate::specs::Choice::pick))]
-pub fn reset(d: Driver, configured: bool) -> Outcome
-    ensures { result ≡ reset_call d configured }
-{
-    if configured {
-        let mut flags = d.flags;
-        flags.transmitting = false;
-        let pins = action_list(
-            5,
-            Action::ResetMakeOutput,
-            Action::SleepMakeOutput,
-            Action::ResetClear(10000),
-            Action::ResetSet,
-            Action::SleepClear,
-        );
-        return quiet_step(with_flags(d, flags), pins);
-    }
-    refuse(Answer::Configure, d)
-}
-
-// Nothing is to be done: the driver as it is.
-pub fn initialize(d: Driver) -> Driver
-    ensures { result ≡ d }
-{
-    d
-}
-
-// Whether the radio is on.
-pub fn is_on(d: Driver) -> bool
-    ensures { result ≡ d.flags.radio_on }
-{
-    let flags = d.flags;
-    flags.radio_on
-}
-
-// Whether the driver is elsewhere than in READY and SLEEP.
-pub fn busy(d: Driver) -> bool
-    ensures { result ≡ is_busy d }
-{
-    let s = d.state;
-    match s {
-        InternalState::READY | InternalState::SLEEP => false,
-        _ => true,
-    }
-}
-
-// The short address.
-pub fn set_address(d: Driver, addr: u16) -> Driver
-    ensures { result ≡ set_address d addr }
-{
-    let mut settings = d.settings;
-    settings.addr = addr;
-    with_settings(d, settings)
-}
-
-// The long address.
-pub fn set_address_long(d: Driver, addr: [u8; 8]) -> Driver
-    ensures { result ≡ set_address_long d addr }
-{
-    let mut settings = d.settings;
-    settings.addr_long = addr;
-    with_settings(d, settings)
-}
-
-// The PAN's number.
-pub fn set_pan(d: Driver, id: u16) -> Driver
-    ensures { result ≡ set_pan d id }
-{
-    let mut settings = d.settings;
-    settings.pan = id;
-    with_settings(d, settings)
-}
-
-// The transmit power in dBm, from -17 to 4.
-#[tactic(auto, unfolding(crate::specs::Config::set_power, crate::specs::Choice::pick))]
-pub fn set_tx_power(d: Driver, power: i8) -> Outcome
-    ensures { result ≡ set_power d power }
-{
-    if power_fits(power) {
-        let mut settings = d.settings;
-        settings.tx_power = power;
-        return stay(with_settings(d, settings));
-    }
-    refuse(Answer::Inval, d)
-}
 
 // A channel of the 2.4 GHz band.
 pub(crate) fn channel_fits(channel: u8) -> bool
     ensures { result ≡ channel_fits channel }
 {
-    (11 <= channel) & (channel <= 26)
+    (11..=26).contains(&channel)
 }
 
-// The channel, from 11 to 26.
-#[tactic(auto, unfolding(crate::specs::Config::set_channel, crate::specs::Choice::pick))]
-pub fn set_channel(d: Driver, channel: u8) -> Outcome
-    ensures { result ≡ set_channel d channel }
-{
-    if channel_fits(channel) {
-        let mut settings = d.settings;
-        settings.channel = channel;
-        return stay(with_settings(d, settings));
+// Start, stop, commit, reset.
+impl Driver {
+    // From SLEEP the radio is woken; on a new driver PART_NUM is read. A starter that finds a transfer under way does nothing.
+    #[tactic(auto, unfolding(crate::specs::Config::begin_start, crate::specs::Choice::pick))]
+    fn begin_start(mut self) -> Outcome
+        ensures { result ≡ begin_start self }
+    {
+        match self.state {
+            InternalState::SLEEP => {
+                self.state_transition_read(RF233Register::TRX_STATUS, InternalState::SLEEP_WAKE)
+            }
+            _ => {
+                self.flags.wake_pending = true;
+                self.register_read(RF233Register::PART_NUM).step()
+            }
+        }
     }
-    refuse(Answer::Inval, d)
+
+    // Starts the radio, or wakes it.
+    #[tactic(auto, unfolding(crate::specs::Config::start_call, crate::specs::Choice::pick))]
+    pub fn start(mut self, pool: &mut [u8]) -> Outcome
+        ensures outcome { result ≡ (start_call self pool.old).outcome }
+        ensures pool { pool.new ≡ (start_call self pool.old).pool }
+    {
+        if self.pool_fault(pool.len()) {
+            return Outcome::answered(Answer::Pool, self);
+        }
+        self.flags.sleep_pending = false;
+        match self.state {
+            InternalState::START | InternalState::SLEEP => self.begin_start().written(pool),
+            _ => Outcome::answered(Answer::Already, self),
+        }
+    }
+
+    // In READY and ON_PLL_WAITING the radio is turned off; elsewhere the stop waits for READY.
+    #[tactic(auto, unfolding(crate::specs::Config::begin_stop, crate::specs::Choice::pick))]
+    fn begin_stop(mut self) -> Outcome
+        ensures { result ≡ begin_stop self }
+    {
+        match self.state {
+            InternalState::ON_PLL_WAITING | InternalState::READY => {
+                self.flags.radio_on = false;
+                self.trx_command(RF233TrxCmd::OFF, InternalState::SLEEP_TRX_OFF)
+            }
+            _ => {
+                self.flags.sleep_pending = true;
+                Outcome::done(self)
+            }
+        }
+    }
+
+    // Turns the radio off, at once or once it is READY.
+    #[tactic(auto, unfolding(crate::specs::Config::stop_call, crate::specs::Choice::pick))]
+    pub fn stop(self, pool: &mut [u8]) -> Outcome
+        ensures outcome { result ≡ (stop_call self pool.old).outcome }
+        ensures pool { pool.new ≡ (stop_call self pool.old).pool }
+    {
+        if self.pool_fault(pool.len()) {
+            return Outcome::answered(Answer::Pool, self);
+        }
+        match self.state {
+            InternalState::SLEEP_TRX_OFF | InternalState::SLEEP => Outcome::answered(
+                Answer::Already,
+                self,
+            ),
+            _ => self.begin_stop().written(pool),
+        }
+    }
+
+    // A commit starts in READY; elsewhere it waits. One that is pending already is left alone.
+    #[tactic(auto, unfolding(crate::specs::Config::begin_commit, crate::specs::Choice::pick))]
+    fn begin_commit(mut self) -> Outcome
+        ensures { result ≡ begin_commit self }
+    {
+        if self.flags.config_pending {
+            return Outcome::done(self);
+        }
+        self.flags.config_pending = true;
+        match self.state {
+            InternalState::READY => self.state_transition_write(
+                RF233Register::SHORT_ADDR_0,
+                Value::AddrLow.of(self.settings),
+                InternalState::CONFIG_SHORT0_SET,
+            ),
+            _ => Outcome::done(self),
+        }
+    }
+
+    // Writes the settings to the radio, at once or once it is READY.
+    #[tactic(auto, unfolding(crate::specs::Config::commit_call, crate::specs::Choice::pick))]
+    pub fn config_commit(self, pool: &mut [u8]) -> Outcome
+        ensures outcome { result ≡ (commit_call self pool.old).outcome }
+        ensures pool { pool.new ≡ (commit_call self pool.old).pool }
+    {
+        if self.pool_fault(pool.len()) {
+            return Outcome::answered(Answer::Pool, self);
+        }
+        self.begin_commit().written(pool)
+    }
+
+    // Resets the radio by its pins. The kernel has configured the SPI just before, and says whether that went well.
+    #[tactic(auto, unfolding(crate::specs::Config::reset_call, crate::specs::Choice::pick))]
+    pub fn reset(mut self, configured: bool) -> Outcome
+        ensures { result ≡ reset_call self configured }
+    {
+        if !configured {
+            return Outcome::answered(Answer::Configure, self);
+        }
+        self.flags.transmitting = false;
+        Outcome::done(self).with_actions(Actions::of([
+            Action::ResetMakeOutput,
+            Action::SleepMakeOutput,
+            Action::ResetClear(10000),
+            Action::ResetSet,
+            Action::SleepClear,
+        ]))
+    }
 }
 
-// The short address that is set.
-pub fn get_address(d: Driver) -> u16
-    ensures { result ≡ d.settings.addr }
-{
-    let settings = d.settings;
-    settings.addr
-}
+// Settings and queries: document 01 names each call, also where two do alike.
+impl Driver {
+    // Nothing is to be done: the driver as it is.
+    pub fn initialize(self) -> Driver
+        ensures { result ≡ self }
+    {
+        self
+    }
 
-// The long address that is set.
-pub fn get_address_long(d: Driver) -> [u8; 8]
-    ensures { result ≡ d.settings.addr_long }
-{
-    let settings = d.settings;
-    settings.addr_long
-}
+    // Whether the radio is on.
+    pub fn is_on(self) -> bool
+        ensures { result ≡ self.flags.radio_on }
+    {
+        self.flags.radio_on
+    }
 
-// The PAN's number that is set.
-pub fn get_pan(d: Driver) -> u16
-    ensures { result ≡ d.settings.pan }
-{
-    let settings = d.settings;
-    settings.pan
-}
+    // Whether the driver is elsewhere than in READY and SLEEP.
+    pub fn busy(self) -> bool
+        ensures { result ≡ is_busy self }
+    {
+        !matches!(self.state, InternalState::READY | InternalState::SLEEP)
+    }
 
-// The transmit power that is set.
-pub fn get_tx_power(d: Driver) -> i8
-    ensures { result ≡ d.settings.tx_power }
-{
-    let settings = d.settings;
-    settings.tx_power
-}
+    // The short address.
+    pub fn set_address(mut self, addr: u16) -> Driver
+        ensures { result ≡ set_address self addr }
+    {
+        self.settings.addr = addr;
+        self
+    }
 
-// The channel that is set.
-pub fn get_channel(d: Driver) -> u8
-    ensures { result ≡ d.settings.channel }
-{
-    let settings = d.settings;
-    settings.channel
+    // The long address.
+    pub fn set_address_long(mut self, addr: [u8; 8]) -> Driver
+        ensures { result ≡ set_address_long self addr }
+    {
+        self.settings.addr_long = addr;
+        self
+    }
+
+    // The PAN's number.
+    pub fn set_pan(mut self, id: u16) -> Driver
+        ensures { result ≡ set_pan self id }
+    {
+        self.settings.pan = id;
+        self
+    }
+
+    // The transmit power in dBm, from -17 to 4.
+    #[tactic(auto, unfolding(crate::specs::Config::set_power, crate::specs::Choice::pick))]
+    pub fn set_tx_power(mut self, power: i8) -> Outcome
+        ensures { result ≡ set_power self power }
+    {
+        if !power_fits(power) {
+            return Outcome::answered(Answer::Inval, self);
+        }
+        self.settings.tx_power = power;
+        Outcome::done(self)
+    }
+
+    // The channel, from 11 to 26.
+    #[tactic(auto, unfolding(crate::specs::Config::set_channel, crate::specs::Choice::pick))]
+    pub fn set_channel(mut self, channel: u8) -> Outcome
+        ensures { result ≡ set_channel self channel }
+    {
+        if !channel_fits(channel) {
+            return Outcome::answered(Answer::Inval, self);
+        }
+        self.settings.channel = channel;
+        Outcome::done(self)
+    }
+
+    // The short address that is set.
+    pub fn get_address(self) -> u16
+        ensures { result ≡ self.settings.addr }
+    {
+        self.settings.addr
+    }
+
+    // The long address that is set.
+    pub fn get_address_long(self) -> [u8; 8]
+        ensures { result ≡ self.settings.addr_long }
+    {
+        self.settings.addr_long
+    }
+
+    // The PAN's number that is set.
+    pub fn get_pan(self) -> u16
+        ensures { result ≡ self.settings.pan }
+    {
+        self.settings.pan
+    }
+
+    // The transmit power that is set.
+    pub fn get_tx_power(self) -> i8
+        ensures { result ≡ self.settings.tx_power }
+    {
+        self.settings.tx_power
+    }
+
+    // The channel that is set.
+    pub fn get_channel(self) -> u8
+        ensures { result ≡ self.settings.channel }
+    {
+        self.settings.channel
+    }
 }

@@ -2,6 +2,7 @@
 ghost use Rattle.std.specs.Prelude.{◌≡◌, ◌||◌, not, eqb};
 ghost use Rattle.rf233.specs.Described.{
   buffer_missing,
+  by_place,
   described,
   frame_bad,
   frame_no,
@@ -13,118 +14,102 @@ ghost use Rattle.rf233.specs.Described.{
 };
 ghost use Rattle.rf233.specs.State.{state_frame, state_no};
 
-use crate::driver::{Buffers, Driver, Slot, Under};
-use crate::record::{is_held, slot_has};
+use crate::driver::{Buffers, Driver, Lent, Under};
+use crate::record::slot_has;
 use crate::state::InternalState;
 
 // The two places name the same buffer.
-fn same_buffer(x: Slot, y: Slot) -> bool
+fn same_buffer(x: Option<Lent>, y: Option<Lent>) -> bool
     ensures { result ≡ same_buffer x y }
 {
-    match x {
-        Slot::Empty => false,
-        Slot::Held(c, _) => slot_has(y, c),
-    }
+    x.is_some_and(|x| slot_has(y, x.buffer))
 }
 
-// A transmit buffer, held or under way, that is no client's, or with a length or an n out of bounds.
-fn tx_bad(slot: Slot, n: u8) -> bool
+// A transmit buffer, held or under way, that is no client's, or with a length or an n out of bounds. It and the next are two functions,
+// since their bounds are two rules of document 01.
+fn tx_bad(slot: Option<Lent>, n: u8) -> bool
     ensures { result ≡ (slot_above slot || tx_length_bad slot n) }
 {
-    match slot {
-        Slot::Empty => false,
-        Slot::Held(c, l) => (15 < c)
-            | !(((2 <= n) & (n <= 127)) & ((n as u16 + 3 <= l as u16) & (l <= 160))),
-    }
+    slot.is_some_and(|x| 15 < x.buffer
+        || !((2..=127).contains(&n) && (n + 3..=160).contains(&x.length)))
 }
 
 // A receive buffer, held or under way, that is no client's, or with a length out of bounds.
-fn rx_bad(slot: Slot) -> bool
+fn rx_bad(slot: Option<Lent>) -> bool
     ensures { result ≡ (slot_above slot || rx_length_bad slot) }
 {
-    match slot {
-        Slot::Empty => false,
-        Slot::Held(c, l) => (15 < c) | !((129 <= l) & (l <= 160)),
-    }
+    slot.is_some_and(|x| 15 < x.buffer || !(129..=160).contains(&x.length))
 }
 
-// What is wrong with the transfer under way: an own buffer is in its own place exactly while the transfer does not have it, and a frame
-// transfer's client's buffer is asked like a held one.
-fn going_bad(b: Buffers, handling: bool) -> bool
-    ensures { result ≡ (own_wrong b.under b || frame_bad b.under b.tx_buf b.rx_buf b.tx_len handling) }
-{
-    let tx_buf = b.tx_buf;
-    let rx_buf = b.rx_buf;
-    let under = b.under;
-    match under {
-        Under::Idle => !b.spi_tx | (!b.spi_rx | !b.spi_buf),
-        Under::Register => b.spi_tx | (b.spi_rx | !b.spi_buf),
-        Under::FrameRead(c, l) => {
-            let going = Slot::Held(c, l);
-            let held = is_held(rx_buf);
-            let bad = rx_bad(going);
-            let twice = same_buffer(tx_buf, going);
-            (b.spi_buf | (!b.spi_tx | !b.spi_rx)) | (handling | (held | (bad | twice)))
-        }
-        Under::FrameWrite(c, l) => {
-            let going = Slot::Held(c, l);
-            let held = is_held(tx_buf);
-            let bad = tx_bad(going, b.tx_len);
-            let twice = same_buffer(rx_buf, going);
-            (b.spi_buf | (!b.spi_tx | !b.spi_rx)) | (handling | (held | (bad | twice)))
+impl Buffers {
+    // What is wrong with the transfer under way: an own buffer is in its own place exactly while the transfer does not have it, and a
+    // frame transfer's client's buffer is asked like a held one.
+    fn going_bad(self, handling: bool) -> bool
+        ensures { result ≡ (own_wrong self.under self || frame_bad self.under self.tx_buf self.rx_buf self.tx_len handling) }
+    {
+        match self.under {
+            Under::Idle => !self.spi_tx || !self.spi_rx || !self.spi_buf,
+            Under::Register => self.spi_tx || self.spi_rx || !self.spi_buf,
+            Under::FrameRead(x) => {
+                let going = Some(x);
+                (self.spi_buf || !self.spi_tx || !self.spi_rx)
+                    || (handling
+                        || self.rx_buf.is_some()
+                        || rx_bad(going)
+                        || same_buffer(self.tx_buf, going))
+            }
+            Under::FrameWrite(x) => {
+                let going = Some(x);
+                (self.spi_buf || !self.spi_tx || !self.spi_rx)
+                    || (handling
+                        || self.tx_buf.is_some()
+                        || tx_bad(going, self.tx_len)
+                        || same_buffer(self.rx_buf, going))
+            }
         }
     }
-}
 
-// No frame transfer, a frame read, a frame write.
-fn frame_number(under: Under) -> u8
-    ensures { result ≡ frame_no under }
-{
-    match under {
-        Under::Idle => 0,
-        Under::Register => 0,
-        Under::FrameRead(_, _) => 1,
-        Under::FrameWrite(_, _) => 2,
+    // A frame transfer that the state does not name, or a state without its transfer or without the buffer that it takes.
+    fn state_bad(self, state: InternalState) -> bool
+        ensures { result ≡ (not (eqb (frame_no self.under) (state_frame (state_no state))) || buffer_missing self (state_no state)) }
+    {
+        let framed = matches!(self.under, Under::FrameRead(_) | Under::FrameWrite(_));
+        match state {
+            InternalState::TX_STATUS_PRECHECK1 | InternalState::TX_RETURN_TO_RX => framed
+                || self.tx_buf.is_none(),
+            InternalState::TX_WRITING_FRAME => !matches!(self.under, Under::FrameWrite(_)),
+            InternalState::RX_START_READING
+            | InternalState::RX_READING_FRAME_LEN_DONE
+            | InternalState::RX_ENABLING_RECEPTION => framed || self.rx_buf.is_none(),
+            InternalState::RX_READING_FRAME_LEN | InternalState::RX_READING_FRAME => {
+                !matches!(self.under, Under::FrameRead(_))
+            }
+            _ => framed,
+        }
     }
 }
 
-// A frame transfer that the state does not name, or a state without its transfer or without the buffer that it takes.
-fn state_bad(b: Buffers, state: InternalState) -> bool
-    ensures { result ≡ (not (eqb (frame_no b.under) (state_frame (state_no state))) || buffer_missing b (state_no state)) }
-{
-    let tx_buf = b.tx_buf;
-    let rx_buf = b.rx_buf;
-    let under = b.under;
-    let tx = is_held(tx_buf);
-    let rx = is_held(rx_buf);
-    let frame = frame_number(under);
-    match state {
-        InternalState::TX_STATUS_PRECHECK1 | InternalState::TX_RETURN_TO_RX => !(frame == 0) | !tx,
-        InternalState::TX_WRITING_FRAME => !(frame == 2),
-        InternalState::RX_START_READING
-        | InternalState::RX_READING_FRAME_LEN_DONE
-        | InternalState::RX_ENABLING_RECEPTION => !(frame == 0) | !rx,
-        InternalState::RX_READING_FRAME_LEN | InternalState::RX_READING_FRAME => !(frame == 1),
-        _ => !(frame == 0),
+impl Driver {
+    // Whether refusal 12 describes the driver value. No place is counted: where no client's place names an own buffer, a buffer is recorded
+    // twice or nowhere exactly if two client's places name the same one or an own one is not where the transfer under way wants it.
+    #[tactic(auto, using(crate::proofs::Regrouped::regrouped))]
+    pub(crate) fn is_described(self) -> bool
+        ensures { result ≡ described self }
+    {
+        self.bad_by_place()
     }
-}
 
-// Whether refusal 12 describes the driver value. No place is counted: where no client's place names an own buffer, a buffer is recorded
-// twice or nowhere exactly if two client's places name the same one or an own one is not where the transfer under way wants it.
-pub fn is_described(d: Driver) -> bool
-    ensures { result ≡ described d }
-{
-    let b = d.buffers;
-    let tx_buf = b.tx_buf;
-    let rx_buf = b.rx_buf;
-    let flags = d.flags;
-    let s = d.state;
-    let whole = (129 <= b.spi_buf_whole) & (b.spi_buf_whole <= 160);
-    let present = (2 <= b.spi_buf_len) & (b.spi_buf_len <= b.spi_buf_whole);
-    let tx = tx_bad(tx_buf, b.tx_len);
-    let rx = rx_bad(rx_buf);
-    let twice = same_buffer(tx_buf, rx_buf);
-    let going = going_bad(b, flags.interrupt_handling);
-    let unfit = state_bad(b, s);
-    !whole | (!present | (tx | (rx | (twice | (going | unfit)))))
+    // The two lengths of spi_buf, each place, the transfer under way, the state.
+    fn bad_by_place(self) -> bool
+        ensures { result ≡ by_place self }
+    {
+        let b = self.buffers;
+        !(129..=160).contains(&b.spi_buf_whole)
+            || !(2..=b.spi_buf_whole).contains(&b.spi_buf_len)
+            || tx_bad(b.tx_buf, b.tx_len)
+            || rx_bad(b.rx_buf)
+            || same_buffer(b.tx_buf, b.rx_buf)
+            || b.going_bad(self.flags.interrupt_handling)
+            || b.state_bad(self.state)
+    }
 }

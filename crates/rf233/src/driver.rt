@@ -1,11 +1,8 @@
 // The driver as a value: what the Rust keeps in cells, and where each buffer is.
-ghost use Rattle.std.specs.Prelude.{◌≡◌};
-ghost use Rattle.rf233.specs.Driver.{with_buffers, with_flags, with_rx, with_settings, with_state, with_tx, with_under};
-
 use crate::state::InternalState;
 
 // The Rust's cells of a bool, under its names. Its `spi_busy` is here the record of the transfer under way.
-#[derive(Clone, Copy)]
+#[derive(Clone, Copy, Default)]
 pub struct Flags {
     pub radio_on: bool,
     pub transmitting: bool,
@@ -20,12 +17,21 @@ pub struct Flags {
 }
 
 // Which listeners are there.
-#[derive(Clone, Copy)]
+#[derive(Clone, Copy, Default)]
 pub struct Clients {
     pub tx_client: bool,
     pub rx_client: bool,
     pub cfg_client: bool,
     pub power_client: bool,
+}
+
+// A listener.
+#[derive(Clone, Copy)]
+pub enum Client {
+    Transmit,
+    Receive,
+    Config,
+    Power,
 }
 
 // What the setters set and a startup or a commit writes to the radio.
@@ -38,20 +44,21 @@ pub struct Settings {
     pub channel: u8,
 }
 
-// A place for a client's buffer: empty, or with that buffer, of that length.
+// A client's buffer that the driver has, and its length.
 #[derive(Clone, Copy)]
-pub enum Slot {
-    Empty,
-    Held(u8, u8),
+pub struct Lent {
+    pub buffer: u8,
+    pub length: u8,
 }
 
-// The transfer under way. A register transfer has buffers 16 and 17, a frame transfer 18 and a client's, of a length.
+// The transfer under way. A register transfer has buffers 16 and 17, a frame transfer 18 and a client's. As an Option of the other three
+// it would be no plainer: every `match` would name `Some` beside the kind.
 #[derive(Clone, Copy)]
 pub enum Under {
     Idle,
     Register,
-    FrameRead(u8, u8),
-    FrameWrite(u8, u8),
+    FrameRead(Lent),
+    FrameWrite(Lent),
 }
 
 // The driver's record of the buffers: whether each own buffer is in its place, the client's buffers in theirs, the transfer under
@@ -63,8 +70,8 @@ pub struct Buffers {
     pub spi_buf: bool,
     pub spi_buf_whole: u16,
     pub spi_buf_len: u16,
-    pub tx_buf: Slot,
-    pub rx_buf: Slot,
+    pub tx_buf: Option<Lent>,
+    pub rx_buf: Option<Lent>,
     pub tx_len: u8,
     pub under: Under,
 }
@@ -77,67 +84,4 @@ pub struct Driver {
     pub clients: Clients,
     pub settings: Settings,
     pub buffers: Buffers,
-}
-
-// The driver in another state.
-pub(crate) fn with_state(d: Driver, state: InternalState) -> Driver
-    ensures { result ≡ with_state state d }
-{
-    let mut next = d;
-    next.state = state;
-    next
-}
-
-// The driver with other flags.
-pub(crate) fn with_flags(d: Driver, flags: Flags) -> Driver
-    ensures { result ≡ with_flags flags d }
-{
-    let mut next = d;
-    next.flags = flags;
-    next
-}
-
-// The driver with other settings.
-pub(crate) fn with_settings(d: Driver, settings: Settings) -> Driver
-    ensures { result ≡ with_settings settings d }
-{
-    let mut next = d;
-    next.settings = settings;
-    next
-}
-
-// The driver with another record of its buffers.
-pub(crate) fn with_buffers(d: Driver, buffers: Buffers) -> Driver
-    ensures { result ≡ with_buffers buffers d }
-{
-    let mut next = d;
-    next.buffers = buffers;
-    next
-}
-
-// The record with another transfer under way.
-pub(crate) fn with_under(b: Buffers, under: Under) -> Buffers
-    ensures { result ≡ with_under under b }
-{
-    let mut next = b;
-    next.under = under;
-    next
-}
-
-// The record with another transmit place.
-pub(crate) fn with_tx_buf(b: Buffers, slot: Slot) -> Buffers
-    ensures { result ≡ with_tx slot b }
-{
-    let mut next = b;
-    next.tx_buf = slot;
-    next
-}
-
-// The record with another receive place.
-pub(crate) fn with_rx_buf(b: Buffers, slot: Slot) -> Buffers
-    ensures { result ≡ with_rx slot b }
-{
-    let mut next = b;
-    next.rx_buf = slot;
-    next
 }

@@ -1,28 +1,29 @@
-// Refusal 12, asked before anything else, and the end of a step: its command bytes are written into the pool.
+// Refusal 12, asked before anything else, and the end of a step: its command bytes are written into the pool. Six calls have both by
+// themselves: a function that took the step as a closure would not serve `transmit` and a completion, whose steps need the pool too.
 ghost use Rattle.std.specs.Prelude.{◌≡◌, ◌||◌, not, eqb};
 ghost use Rattle.rf233.specs.Described.{described};
 ghost use Rattle.rf233.specs.Pool.{command_written};
 
 use crate::answer::Outcome;
-use crate::described::is_described;
 use crate::driver::Driver;
 use crate::pool::write_command;
 
-// The pool is not 3,040 bytes long, or the driver value is one that refusal 12 describes.
-pub fn pool_fault(d: Driver, length: usize) -> bool
-    ensures { result ≡ (not (eqb length 3040) || described d) }
-{
-    let right = length == 3040;
-    let faulty = is_described(d);
-    !right | faulty
+impl Driver {
+    // The pool is not 3,040 bytes long, or the driver value is one that refusal 12 describes.
+    pub(crate) fn pool_fault(self, length: usize) -> bool
+        ensures { result ≡ (not (eqb length 3040) || described self) }
+    {
+        length != 3040 || self.is_described()
+    }
 }
 
-// The step's command bytes are written.
-pub fn finish(out: Outcome, pool: &mut [u8]) -> Outcome
-    ensures { (result ≡ out) × (pool.new ≡ command_written out.reply.transfer pool.old) }
-{
-    let reply = out.reply;
-    let transfer = reply.transfer;
-    write_command(pool, transfer);
-    out
+impl Outcome {
+    // The step's command bytes are written.
+    pub(crate) fn written(self, pool: &mut [u8]) -> Outcome
+        ensures outcome { result ≡ self }
+        ensures pool { pool.new ≡ command_written self.reply.transfer pool.old }
+    {
+        write_command(pool, self.reply.transfer);
+        self
+    }
 }

@@ -2,62 +2,59 @@
 ghost use Rattle.std.specs.Prelude.{◌≡◌};
 ghost use Rattle.rf233.specs.Kernel.{completion_call, fired_call};
 
-use crate::answer::{Answer, Outcome, Reply, refuse};
+use crate::answer::{Answer, Outcome, Reply};
 use crate::arrived::Arrived;
-use crate::completion::complete;
 use crate::driver::Driver;
-use crate::guard::{finish, pool_fault};
-use crate::interrupt::handle_interrupt;
-use crate::pool::{copy_arrived, length_byte, read_buffer, shorter_length};
-use crate::transfer::to_complete;
+use crate::pool::copy_arrived;
 use rf233_const::status::status_of;
 
-// The transfer under way is over, and these bytes arrived.
-#[tactic(auto, unfolding(crate::specs::Kernel::completion_call, crate::specs::Choice::pick, crate::specs::Kernel::completing))]
-pub fn read_write_done(d: Driver, arrived: &[u8], pool: &mut [u8]) -> Outcome
-    ensures { (result ≡ (completion_call d arrived.now pool.old).outcome)
-        × (pool.new ≡ (completion_call d arrived.now pool.old).pool) }
-{
-    if pool_fault(d, pool.len()) {
-        return refuse(Answer::Pool, d);
+impl Driver {
+    // The transfer under way is over, and these bytes arrived.
+    #[tactic(auto, unfolding(crate::specs::Kernel::completion_call, crate::specs::Choice::pick, crate::specs::Kernel::completing))]
+    pub fn read_write_done(self, arrived: &[u8], pool: &mut [u8]) -> Outcome
+        ensures outcome { result ≡ (completion_call self arrived.now pool.old).outcome }
+        ensures pool { pool.new ≡ (completion_call self arrived.now pool.old).pool }
+    {
+        if self.pool_fault(pool.len()) {
+            return Outcome::answered(Answer::Pool, self);
+        }
+        if !self.buffers.to_complete() {
+            return Outcome::answered(Answer::Idle, self);
+        }
+        let n = arrived.len();
+        let most = self.buffers.shorter_length() as usize;
+        if n < 2 || most < n {
+            return Outcome::answered(Answer::Arrived, self);
+        }
+        copy_arrived(pool, self.buffers.under.read_buffer(), arrived);
+        let a = Arrived {
+            status: status_of(arrived[0]),
+            result: arrived[1],
+            length: self.buffers.length_byte(pool),
+        };
+        self.complete(a).written(pool)
     }
-    let b = d.buffers;
-    if !to_complete(b) {
-        return refuse(Answer::Idle, d);
-    }
-    let n = arrived.len();
-    let most = shorter_length(b) as usize;
-    if (n < 2) | (most < n) {
-        return refuse(Answer::Arrived, d);
-    }
-    copy_arrived(pool, read_buffer(b), arrived);
-    let length = length_byte(b, pool);
-    let a = Arrived {
-        status: status_of(arrived[0]),
-        result: arrived[1],
-        length: length,
-    };
-    finish(complete(d, a), pool)
-}
 
-// The firing by value.
-#[tactic(auto, unfolding(crate::specs::Kernel::fired_call, crate::specs::Choice::pick))]
-pub fn fire(d: Driver, pool: &mut [u8]) -> Outcome
-    ensures { (result ≡ (fired_call d pool.old).outcome) × (pool.new ≡ (fired_call d pool.old).pool) }
-{
-    if pool_fault(d, pool.len()) {
-        return refuse(Answer::Pool, d);
+    // The firing by value.
+    #[tactic(auto, unfolding(crate::specs::Kernel::fired_call, crate::specs::Choice::pick))]
+    pub fn fire(self, pool: &mut [u8]) -> Outcome
+        ensures outcome { result ≡ (fired_call self pool.old).outcome }
+        ensures pool { pool.new ≡ (fired_call self pool.old).pool }
+    {
+        if self.pool_fault(pool.len()) {
+            return Outcome::answered(Answer::Pool, self);
+        }
+        self.handle_interrupt().written(pool)
     }
-    finish(handle_interrupt(d), pool)
-}
 
-// The driver behind d goes through the step, and is stored back.
-pub fn fired(d: &mut Driver, pool: &mut [u8]) -> Reply
-    ensures { (result ≡ (fired_call d.old pool.old).outcome.reply)
-        × ((d.new ≡ (fired_call d.old pool.old).outcome.driver)
-        × (pool.new ≡ (fired_call d.old pool.old).pool)) }
-{
-    let out = fire(*d, pool);
-    *d = out.driver;
-    out.reply
+    // The driver goes through the step by value, and is stored back where it is.
+    pub fn fired(&mut self, pool: &mut [u8]) -> Reply
+        ensures reply { result ≡ (fired_call self.old pool.old).outcome.reply }
+        ensures driver { self.new ≡ (fired_call self.old pool.old).outcome.driver }
+        ensures pool { pool.new ≡ (fired_call self.old pool.old).pool }
+    {
+        let out = self.fire(pool);
+        *self = out.driver;
+        out.reply
+    }
 }

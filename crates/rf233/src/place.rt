@@ -1,29 +1,46 @@
 // Where the driver's record has a buffer.
 ghost use Rattle.std.specs.Prelude.{◌≡◌};
-ghost use Rattle.rf233.specs.Place.{place_of};
+ghost use Rattle.rf233.specs.Place.{place_no, place_of};
 
 use crate::driver::Buffers;
-use crate::record::{own_has, slot_has, under_has};
+use crate::record::slot_has;
 
-// 0 with the client, 1 its own place, 2 the transmit place, 3 the receive place, 4 the transfer under way.
-#[tactic(auto, unfolding(crate::specs::Place::place_of))]
-pub fn place_in_record(b: Buffers, buffer: u8) -> u8
-    ensures { result ≡ place_of b buffer }
-{
-    let tx_buf = b.tx_buf;
-    let rx_buf = b.rx_buf;
-    let under = b.under;
-    if own_has(b, buffer) {
-        return 1;
+// The places of a buffer, with the numbers that document 01's book has for them: with the client, an own buffer's own place, the transmit
+// place, the receive place, the transfer under way.
+#[derive(Clone, Copy, PartialEq, Eq)]
+pub enum Place {
+    Client = 0,
+    Own = 1,
+    Transmit = 2,
+    Receive = 3,
+    Transfer = 4,
+}
+
+// The number of each.
+impl From<Place> for u8 {
+    ghost from_gives = { λ place n. n ≡ place_no place };
+
+    fn from(place: Place) -> u8 {
+        place as u8
     }
-    if slot_has(tx_buf, buffer) {
-        return 2;
+}
+
+impl Buffers {
+    // The place at which the record has the buffer; at none of its own, the client has it.
+    #[tactic(auto, unfolding(crate::specs::Place::place_of))]
+    pub fn place_of(self, buffer: u8) -> Place
+        ensures { place_no result ≡ place_of self buffer }
+    {
+        if self.own_has(buffer) {
+            Place::Own
+        } else if slot_has(self.tx_buf, buffer) {
+            Place::Transmit
+        } else if slot_has(self.rx_buf, buffer) {
+            Place::Receive
+        } else if self.under.has(buffer) {
+            Place::Transfer
+        } else {
+            Place::Client
+        }
     }
-    if slot_has(rx_buf, buffer) {
-        return 3;
-    }
-    if under_has(under, buffer) {
-        return 4;
-    }
-    0
 }

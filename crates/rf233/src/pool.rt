@@ -1,25 +1,18 @@
 // The lent pool of 19 buffers of 160 bytes: command bytes are written into it, arrived bytes are copied into it, one byte is read.
-ghost use Rattle.std.specs.Prelude.{◌≡◌, ◌*◌, ◌+◌, ◌++◌, ◌≤◌, drop, get_or, length, set};
-ghost use Rattle.rf233.specs.Pool.{command_written, copied, length_byte, read_buffer, read_length, shorter, write_length};
+ghost use Rattle.std.specs.Prelude.{◌≡◌, ◌*◌, ◌+◌, ◌++◌, ◌≤◌, drop, length, set};
+ghost use Rattle.rf233.specs.Pool.{command_written, copied, length_byte, read_buffer, shorter};
 
 use crate::driver::{Buffers, Under};
 use crate::record::buffer_in;
-use crate::transfer::Transfer;
+use crate::transfer::{Transfer, TransferKind};
 
-// Writes one byte, where the pool reaches that far.
+// Writes one byte, where the pool reaches that far. A test and an index: with `get_mut` the proof did not close.
 fn put(pool: &mut [u8], at: usize, byte: u8)
     ensures { pool.new ≡ set pool.old at byte }
 {
     if at < pool.len() {
         pool[at] = byte;
     }
-}
-
-// The byte there; past the end 0.
-fn byte_at(pool: &[u8], at: usize) -> u8
-    ensures { result ≡ get_or pool.now at 0 }
-{
-    if at < pool.len() { pool[at] } else { 0 }
 }
 
 // Writes byte 1 of a client's buffer.
@@ -29,33 +22,34 @@ pub fn put_length(pool: &mut [u8], buffer: u8, byte: u8)
     put(pool, buffer as usize * 160 + 1, byte);
 }
 
-// Writes the command bytes of a transfer.
+// Writes the command bytes of a transfer, where there is one.
 #[tactic(auto, unfolding(crate::specs::Pool::command_written, crate::specs::Choice::pick))]
-pub fn write_command(pool: &mut [u8], t: Transfer)
-    ensures { pool.new ≡ command_written t pool.old }
+pub fn write_command(pool: &mut [u8], transfer: Option<Transfer>)
+    ensures { pool.new ≡ command_written transfer pool.old }
 {
-    if t.kind == 0 {
+    let Some(t) = transfer else {
         return;
-    }
+    };
     let at = t.write as usize * 160;
     put(pool, at, t.first);
-    if t.kind < 3 {
-        put(pool, at + 1, t.second);
+    match t.kind {
+        TransferKind::RegisterRead | TransferKind::RegisterWrite => put(pool, at + 1, t.second),
+        TransferKind::FrameRead | TransferKind::FrameWrite => (),
     }
 }
 
-// Copies bytes into the beginning of others.
+// Copies bytes into the beginning of others. Document 01 has a part of the pool lent to a copying function.
 fn copy(from: &[u8], to: &mut [u8])
     requires { length from.now ≤ length to.old }
     ensures { to.new ≡ from.now ++ drop (length from.now) to.old }
 {
-    let count = from.len();
-    to[..count].copy_from_slice(from);
+    to[..from.len()].copy_from_slice(from);
 }
 
 // Copies the arrived bytes into the beginning of a buffer's part of the pool.
 pub fn copy_arrived(pool: &mut [u8], buffer: u8, arrived: &[u8])
-    requires { (length arrived.now ≤ 160) × (buffer * 160 + 160 ≤ length pool.old) }
+    requires fits { length arrived.now ≤ 160 }
+    requires in_pool { buffer * 160 + 160 ≤ length pool.old }
     ensures { pool.new ≡ copied buffer arrived.now pool.old }
 {
     let start = buffer as usize * 160;
@@ -63,59 +57,38 @@ pub fn copy_arrived(pool: &mut [u8], buffer: u8, arrived: &[u8])
     copy(arrived, &mut pool[start..end]);
 }
 
-// The buffer that the transfer under way reads into.
-pub fn read_buffer(b: Buffers) -> u8
-    ensures { result ≡ read_buffer b.under }
-{
-    let under = b.under;
-    match under {
-        Under::Idle => 17,
-        Under::Register => 17,
-        Under::FrameRead(c, _) => c,
-        Under::FrameWrite(_, _) => 18,
+impl Under {
+    // The buffer that the transfer under way reads into.
+    pub(crate) fn read_buffer(self) -> u8
+        ensures { result ≡ read_buffer self }
+    {
+        match self {
+            Under::Idle | Under::Register => 17,
+            Under::FrameRead(x) => x.buffer,
+            Under::FrameWrite(_) => 18,
+        }
     }
 }
 
-// The write length of the transfer under way.
-fn write_length(b: Buffers) -> u16
-    ensures { result ≡ write_length b.under b }
-{
-    let under = b.under;
-    match under {
-        Under::Idle => 0,
-        Under::Register => 2,
-        Under::FrameRead(_, _) => b.spi_buf_len,
-        Under::FrameWrite(_, _) => b.tx_len as u16 + 2,
+impl Buffers {
+    // The shorter length of the transfer under way, write length or read length.
+    pub(crate) fn shorter_length(self) -> u16
+        ensures { result ≡ shorter self }
+    {
+        match self.under {
+            Under::Idle => 0,
+            Under::Register => 2,
+            Under::FrameRead(x) => self.spi_buf_len.min(u16::from(x.length)),
+            Under::FrameWrite(_) => (u16::from(self.tx_len) + 2).min(self.spi_buf_len),
+        }
     }
-}
 
-// Its read length.
-fn read_length(b: Buffers) -> u16
-    ensures { result ≡ read_length b.under b }
-{
-    let under = b.under;
-    match under {
-        Under::Idle => 0,
-        Under::Register => 2,
-        Under::FrameRead(_, l) => l as u16,
-        Under::FrameWrite(_, _) => b.spi_buf_len,
+    // Byte 1 of the buffer in the receive place; with an empty place nobody uses it.
+    pub(crate) fn length_byte(self, pool: &[u8]) -> u8
+        ensures { result ≡ length_byte self pool.now }
+    {
+        pool.get(buffer_in(self.rx_buf) as usize * 160 + 1)
+            .copied()
+            .unwrap_or(0)
     }
-}
-
-// The shorter length of the transfer under way.
-pub fn shorter_length(b: Buffers) -> u16
-    ensures { result ≡ shorter b }
-{
-    let write = write_length(b);
-    let read = read_length(b);
-    if write <= read { write } else { read }
-}
-
-// Byte 1 of the buffer in the receive place; with an empty place nobody uses it.
-pub fn length_byte(b: Buffers, pool: &[u8]) -> u8
-    ensures { result ≡ length_byte b pool.now }
-{
-    let rx_buf = b.rx_buf;
-    let buffer = buffer_in(rx_buf);
-    byte_at(pool, buffer as usize * 160 + 1)
 }

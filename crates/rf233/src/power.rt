@@ -24,7 +24,7 @@ pub fn setting_to_power(setting: u8) -> i8
     }
 }
 
-// The settings for the 256 powers of a signed byte, in their order: entry k is for power k - 128.
+// The settings for the 256 powers of a signed byte, in their order: entry k is for power k - 128. Document 01 names this form.
 const POWER_SETTINGS: [u8; 256] = [
     0x0F, // -128
     0x0F, // -127
@@ -302,5 +302,5 @@ pub fn power_to_setting(power: i8) -> u8
 pub fn power_fits(power: i8) -> bool
     ensures { result ≡ power_fits power }
 {
-    (power >= -17) & (power <= 4)
+    (-17..=4).contains(&power)
 }

@@ -1,181 +1,152 @@
-// The four transfer starters, and what each says: whether it began, or found a transfer under way. Nothing else starts a transfer.
+// The four transfer starters, and what each says: that it began, or found a transfer under way. Nothing else starts a transfer.
 ghost use Rattle.std.specs.Prelude.{◌≡◌};
-ghost use Rattle.rf233.specs.Starter.{
-  begins,
-  begun,
-  frame_read,
-  frame_read_into,
-  frame_write,
-  frame_write_from,
-  refrains,
-  register_read,
-  register_transfer,
-  register_write,
-};
+ghost use Rattle.rf233.specs.Starter.{begun, frame_read, frame_write, refrains, register_read, register_transfer, register_write};
 
-use crate::driver::{Buffers, Driver, Slot, Under, with_rx_buf, with_tx_buf, with_under};
-use crate::transfer::{Transfer, free_to_start, no_transfer, transfer_of};
+use crate::driver::{Driver, Under};
+use crate::transfer::{Transfer, TransferKind};
 use rf233_const::command::{
     frame_read_command, frame_write_command, register_read_command, register_write_command,
 };
 use rf233_const::register::RF233Register;
 
-// A starter's answer: it began its transfer, or found one under way. One that lacks a buffer, which 12 describes, answers as if one were.
+// A starter's answer: it began this transfer, or found one under way. One that lacks a buffer, which 12 describes, answers as if one were.
+// No Option: it says what the starter found, and document 02's request 2026-05 adds a third answer.
 #[derive(Clone, Copy)]
 pub enum StarterAnswer {
-    Began,
+    Began(Transfer),
     UnderWay,
 }
 
-// A starter's answer, the driver after it, and the transfer that it began.
+impl StarterAnswer {
+    // The transfer that the answer gives: the one that began, or none.
+    pub fn transfer(self) -> Option<Transfer>
+        ensures { result ≡ begun self }
+    {
+        match self {
+            StarterAnswer::Began(transfer) => Some(transfer),
+            StarterAnswer::UnderWay => None,
+        }
+    }
+}
+
+// A starter's answer, and the driver after it.
 #[derive(Clone, Copy)]
 pub struct Started {
     pub answer: StarterAnswer,
     pub driver: Driver,
-    pub transfer: Transfer,
 }
 
-// The transfer begins, and the record of the buffers is then this.
-fn begin(d: Driver, buffers: Buffers, transfer: Transfer) -> Started
-    ensures { result ≡ begins transfer buffers d }
-{
-    let mut next = d;
-    next.buffers = buffers;
-    Started {
-        answer: StarterAnswer::Began,
-        driver: next,
-        transfer: transfer,
+impl Driver {
+    // Nothing begins.
+    fn refrain(self) -> Started
+        ensures { result ≡ refrains self }
+    {
+        Started {
+            answer: StarterAnswer::UnderWay,
+            driver: self,
+        }
     }
-}
 
-// Nothing begins.
-fn refrain(d: Driver) -> Started
-    ensures { result ≡ refrains d }
-{
-    let none = no_transfer();
-    Started {
-        answer: StarterAnswer::UnderWay,
-        driver: d,
-        transfer: none,
+    // A register transfer with these two bytes.
+    #[tactic(auto, unfolding(crate::specs::Starter::register_transfer, crate::specs::Choice::pick))]
+    fn register_transfer(mut self, kind: TransferKind, first: u8, second: u8) -> Started
+        ensures { result ≡ register_transfer kind first second self }
+    {
+        if !(self.buffers.free_to_start() && self.buffers.spi_tx && self.buffers.spi_rx) {
+            return self.refrain();
+        }
+        self.buffers.spi_tx = false;
+        self.buffers.spi_rx = false;
+        self.buffers.under = Under::Register;
+        Started {
+            answer: StarterAnswer::Began(Transfer {
+                kind,
+                write: 16,
+                read: 17,
+                first,
+                second,
+                write_len: 2,
+                read_len: 2,
+            }),
+            driver: self,
+        }
     }
-}
 
-// The transfer that a starter's answer gives: the one that it began, or none.
-pub fn begun_transfer(answer: StarterAnswer, transfer: Transfer) -> Transfer
-    ensures { result ≡ begun answer transfer }
-{
-    match answer {
-        StarterAnswer::Began => transfer,
-        StarterAnswer::UnderWay => no_transfer(),
+    // A register read.
+    pub(crate) fn register_read(self, reg: RF233Register) -> Started
+        ensures { result ≡ register_read reg self }
+    {
+        self.register_transfer(TransferKind::RegisterRead, register_read_command(reg), 0)
     }
-}
 
-// A register transfer with these two bytes.
-#[tactic(auto, unfolding(crate::specs::Starter::register_transfer, crate::specs::Choice::pick))]
-fn register_transfer(d: Driver, kind: u8, first: u8, second: u8) -> Started
-    ensures { result ≡ register_transfer kind first second d }
-{
-    let b = d.buffers;
-    let free = free_to_start(b) & b.spi_tx & b.spi_rx;
-    if free {
-        let mut taken = with_under(b, Under::Register);
-        taken.spi_tx = false;
-        taken.spi_rx = false;
-        let transfer = transfer_of(kind, 16, 17, first, second, 2, 2);
-        return begin(d, taken, transfer);
+    // A register write.
+    pub(crate) fn register_write(self, reg: RF233Register, val: u8) -> Started
+        ensures { result ≡ register_write reg val self }
+    {
+        self.register_transfer(
+            TransferKind::RegisterWrite,
+            register_write_command(reg),
+            val,
+        )
     }
-    refrain(d)
-}
 
-// A register read.
-pub fn register_read(d: Driver, reg: RF233Register) -> Started
-    ensures { result ≡ register_read reg d }
-{
-    register_transfer(d, 1, register_read_command(reg), 0)
-}
-
-// A register write.
-pub fn register_write(d: Driver, reg: RF233Register, val: u8) -> Started
-    ensures { result ≡ register_write reg val d }
-{
-    register_transfer(d, 2, register_write_command(reg), val)
-}
-
-// A frame read of n bytes into the receive buffer. A step that asks for one finds it held (`unwrap_holds` in proofs/FullPlace.antt).
-#[tactic(auto, unfolding(crate::specs::Starter::frame_read_into))]
-pub fn frame_read(d: Driver, n: u8) -> Started
-    ensures { result ≡ frame_read n d }
-{
-    let b = d.buffers;
-    let rx_buf = b.rx_buf;
-    match rx_buf {
-        Slot::Empty => refrain(d),
-        Slot::Held(buffer, length) => frame_read_into(d, buffer, length, n),
+    // A frame read of n bytes into the receive buffer, unless none may begin now or buffer 18 is missing. A step that asks for one finds
+    // the buffer held (`unwrap_holds` in proofs/FullPlace.antt).
+    #[tactic(auto, unfolding(crate::specs::Starter::frame_read_into, crate::specs::Choice::pick))]
+    pub(crate) fn frame_read(mut self, n: u8) -> Started
+        ensures { result ≡ frame_read n self }
+    {
+        let Some(x) = self.buffers.rx_buf else {
+            return self.refrain();
+        };
+        if !(self.buffers.free_to_start() && self.buffers.spi_buf) {
+            return self.refrain();
+        }
+        let write_len = u16::from(n) + 2;
+        self.buffers.spi_buf = false;
+        self.buffers.spi_buf_len = write_len;
+        self.buffers.rx_buf = None;
+        self.buffers.under = Under::FrameRead(x);
+        Started {
+            answer: StarterAnswer::Began(Transfer {
+                kind: TransferKind::FrameRead,
+                write: 18,
+                read: x.buffer,
+                first: frame_read_command(),
+                second: n,
+                write_len,
+                read_len: u16::from(x.length),
+            }),
+            driver: self,
+        }
     }
-}
 
-// A frame read of n bytes into this buffer, unless none may begin now or buffer 18 is missing.
-#[tactic(auto, unfolding(crate::specs::Starter::frame_read_into, crate::specs::Choice::pick))]
-fn frame_read_into(d: Driver, buffer: u8, length: u8, n: u8) -> Started
-    ensures { result ≡ frame_read_into (Slot.Held buffer length) n d }
-{
-    let b = d.buffers;
-    let free = free_to_start(b) & b.spi_buf;
-    if free {
-        let write_len = n as u16 + 2;
-        let going = with_under(b, Under::FrameRead(buffer, length));
-        let mut taken = with_rx_buf(going, Slot::Empty);
-        taken.spi_buf = false;
-        taken.spi_buf_len = write_len;
-        let transfer = transfer_of(
-            3,
-            18,
-            buffer,
-            frame_read_command(),
-            n,
-            write_len,
-            length as u16,
-        );
-        return begin(d, taken, transfer);
+    // A frame write of the transmit buffer, whose n `transmit` left in the driver, unless none may begin now or buffer 18 is missing. A
+    // step that asks for one finds the buffer held, likewise.
+    #[tactic(auto, unfolding(crate::specs::Starter::frame_write_from, crate::specs::Choice::pick))]
+    pub(crate) fn frame_write(mut self) -> Started
+        ensures { result ≡ frame_write self }
+    {
+        let Some(x) = self.buffers.tx_buf else {
+            return self.refrain();
+        };
+        if !(self.buffers.free_to_start() && self.buffers.spi_buf) {
+            return self.refrain();
+        }
+        self.buffers.spi_buf = false;
+        self.buffers.tx_buf = None;
+        self.buffers.under = Under::FrameWrite(x);
+        Started {
+            answer: StarterAnswer::Began(Transfer {
+                kind: TransferKind::FrameWrite,
+                write: x.buffer,
+                read: 18,
+                first: frame_write_command(),
+                second: self.buffers.tx_len,
+                write_len: u16::from(self.buffers.tx_len) + 2,
+                read_len: self.buffers.spi_buf_len,
+            }),
+            driver: self,
+        }
     }
-    refrain(d)
-}
-
-// A frame write of the transmit buffer, whose n `transmit` left in the driver. A step that asks for one finds it held, likewise.
-#[tactic(auto, unfolding(crate::specs::Starter::frame_write_from))]
-pub fn frame_write(d: Driver) -> Started
-    ensures { result ≡ frame_write d }
-{
-    let b = d.buffers;
-    let tx_buf = b.tx_buf;
-    match tx_buf {
-        Slot::Empty => refrain(d),
-        Slot::Held(buffer, length) => frame_write_from(d, buffer, length),
-    }
-}
-
-// A frame write from this buffer, unless none may begin now or buffer 18 is missing.
-#[tactic(auto, unfolding(crate::specs::Starter::frame_write_from, crate::specs::Choice::pick))]
-fn frame_write_from(d: Driver, buffer: u8, length: u8) -> Started
-    ensures { result ≡ frame_write_from (Slot.Held buffer length) d }
-{
-    let b = d.buffers;
-    let free = free_to_start(b) & b.spi_buf;
-    if free {
-        let n = b.tx_len;
-        let going = with_under(b, Under::FrameWrite(buffer, length));
-        let mut taken = with_tx_buf(going, Slot::Empty);
-        taken.spi_buf = false;
-        let transfer = transfer_of(
-            4,
-            buffer,
-            18,
-            frame_write_command(),
-            n,
-            n as u16 + 2,
-            b.spi_buf_len,
-        );
-        return begin(d, taken, transfer);
-    }
-    refrain(d)
 }

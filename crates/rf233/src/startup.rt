@@ -8,18 +8,17 @@ ghost use Rattle.rf233.specs.Startup.{startup_row};
 ghost use Rattle.rf233.specs.State.{state_no};
 ghost use Rattle.rf233.specs.Write.{table_write};
 
-use crate::action::{Action, action_list};
+use crate::action::{Action, Actions};
 use crate::answer::Outcome;
 use crate::arrived::Arrived;
 use crate::driver::Driver;
-use crate::state::{InternalState, state_number};
-use crate::step::{state_transition_read, stay, with_actions};
-use crate::write::{Value, Write, table_write};
+use crate::state::InternalState;
+use crate::write::{Value, Write};
 use rf233_const::register::RF233Register;
 use rf233_const::settings::{
     CSMA_SEED_0, CSMA_SEED_1, IRQ_MASK, TRX_CTRL_1, TRX_CTRL_2, TRX_RPC, XAH_CTRL_0, XAH_CTRL_1,
 };
-use rf233_const::status::{ExternalState, external_state_number};
+use rf233_const::status::ExternalState;
 use rf233_const::trx_state::RF233TrxCmd;
 
 // Every write of a startup, in order. Rows 0 and 1 are START_STATUS_READ's, row 1 START_TURNING_OFF's too; rows 2 to 22 are those of
@@ -152,79 +151,75 @@ const STARTUP: [Write; 25] = [
     },
 ];
 
-// The write of row k, and its next state. No other function reads the table: one that names it carries all of it into its proof.
-fn startup_write(d: Driver, k: usize) -> Outcome
-    requires { k < 25 }
-    ensures { result ≡ table_write (startup_row k) d }
-{
-    table_write(d, STARTUP[k])
-}
-
-// START_CTRL1_SET to START_CSMA_1_SEEDED: each has a row of its own.
-pub fn startup_case(d: Driver, a: Arrived) -> Outcome
-    requires { (4 ≤ state_no d.state) × (state_no d.state ≤ 24) }
-    ensures { result ≡ own_case a d }
-{
-    let s = d.state;
-    let n = state_number(s) as usize;
-    startup_write(d, n - 2)
-}
-
-// The other states of a startup.
-pub fn start_case(d: Driver, a: Arrived) -> Outcome
-    requires { one_of (0 ∷ 1 ∷ 2 ∷ 3 ∷ 25 ∷ 26 ∷ 28 ∷ []) (state_no d.state) ≡ true }
-    ensures { result ≡ own_case a d }
-{
-    let s = d.state;
-    match s {
-        InternalState::START => state_transition_read(
-            d,
-            RF233Register::IRQ_STATUS,
-            InternalState::START_PART_READ,
-        ),
-        InternalState::START_PART_READ => state_transition_read(
-            d,
-            RF233Register::TRX_STATUS,
-            InternalState::START_STATUS_READ,
-        ),
-        InternalState::START_STATUS_READ => start_status_read(d, a),
-        InternalState::START_TURNING_OFF => start_turning_off(d, a),
-        InternalState::START_RPC_SET => state_transition_read(
-            d,
-            RF233Register::TRX_STATUS,
-            InternalState::ON_STATUS_READ,
-        ),
-        InternalState::ON_STATUS_READ => startup_write(d, 23),
-        InternalState::ON_PLL_SET => startup_write(d, 24),
-        _ => stay(d),
+impl Driver {
+    // The write of row k, and its next state. No other function reads the table: one that names it carries all of it into its proof.
+    fn startup_write(self, k: usize) -> Outcome
+        requires { k < 25 }
+        ensures { result ≡ table_write (startup_row k) self }
+    {
+        self.table_write(STARTUP[k])
     }
-}
 
-// A radio that is on is turned off first.
-fn start_status_read(d: Driver, a: Arrived) -> Outcome
-    requires { state_no d.state ≡ 2 }
-    ensures { result ≡ own_case a d }
-{
-    let on = external_state_number(ExternalState::ON);
-    let status = a.status;
-    if status == on {
-        return startup_write(d, 0);
+    // START_CTRL1_SET to START_CSMA_1_SEEDED: each has a row of its own.
+    pub(crate) fn startup_case(self, a: Arrived) -> Outcome
+        requires first { 4 ≤ state_no self.state }
+        requires last { state_no self.state ≤ 24 }
+        ensures { result ≡ own_case a self }
+    {
+        self.startup_write(u8::from(self.state) as usize - 2)
     }
-    startup_write(d, 1)
-}
 
-// The interrupt pin is made ready before the first write.
-fn start_turning_off(d: Driver, a: Arrived) -> Outcome
-    requires { state_no d.state ≡ 3 }
-    ensures { result ≡ own_case a d }
-{
-    let ready = action_list(
-        4,
-        Action::IrqMakeInput,
-        Action::IrqClear,
-        Action::IrqSetFloatingState,
-        Action::IrqEnableInterrupts,
-        Action::Nothing,
-    );
-    with_actions(startup_write(d, 1), ready)
+    // The other states of a startup.
+    pub(crate) fn start_case(self, a: Arrived) -> Outcome
+        requires { one_of (0 ∷ 1 ∷ 2 ∷ 3 ∷ 25 ∷ 26 ∷ 28 ∷ []) (state_no self.state) ≡ true }
+        ensures { result ≡ own_case a self }
+    {
+        match self.state {
+            InternalState::START => {
+                self.state_transition_read(
+                    RF233Register::IRQ_STATUS,
+                    InternalState::START_PART_READ,
+                )
+            }
+            InternalState::START_PART_READ => {
+                self.state_transition_read(
+                    RF233Register::TRX_STATUS,
+                    InternalState::START_STATUS_READ,
+                )
+            }
+            InternalState::START_STATUS_READ => self.start_status_read(a),
+            InternalState::START_TURNING_OFF => self.start_turning_off(a),
+            InternalState::START_RPC_SET => {
+                self.state_transition_read(RF233Register::TRX_STATUS, InternalState::ON_STATUS_READ)
+            }
+            InternalState::ON_STATUS_READ => self.startup_write(23),
+            InternalState::ON_PLL_SET => self.startup_write(24),
+            _ => Outcome::done(self),
+        }
+    }
+
+    // A radio that is on is turned off first.
+    fn start_status_read(self, a: Arrived) -> Outcome
+        requires { state_no self.state ≡ 2 }
+        ensures { result ≡ own_case a self }
+    {
+        self.startup_write(if a.status == u8::from(ExternalState::ON) {
+            0
+        } else {
+            1
+        })
+    }
+
+    // The interrupt pin is made ready before the first write.
+    fn start_turning_off(self, a: Arrived) -> Outcome
+        requires { state_no self.state ≡ 3 }
+        ensures { result ≡ own_case a self }
+    {
+        self.startup_write(1).with_actions(Actions::of([
+            Action::IrqMakeInput,
+            Action::IrqClear,
+            Action::IrqSetFloatingState,
+            Action::IrqEnableInterrupts,
+        ]))
+    }
 }

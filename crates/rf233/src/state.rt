@@ -1,9 +1,9 @@
-// The driver's internal states, in the Rust's order, and document 01's number of each.
-ghost use Rattle.std.specs.Prelude.{◌≡◌, eqb};
+// The driver's internal states.
+ghost use Rattle.std.specs.Prelude.{◌≡◌};
 ghost use Rattle.rf233.specs.State.{state_no};
 
-// The Rust's states.
-#[derive(Clone, Copy)]
+// The Rust's states, in its order, which is that of document 01's numbers: START is 0, RX_ENABLING_RECEPTION 68.
+#[derive(Clone, Copy, PartialEq, Eq)]
 pub enum InternalState {
     START,
     START_PART_READ,
@@ -76,89 +76,11 @@ pub enum InternalState {
     RX_ENABLING_RECEPTION,
 }
 
-// The Rust's `state == InternalState::READY`.
-pub(crate) fn is_ready(state: InternalState) -> bool
-    ensures { result ≡ eqb (state_no state) 29 }
-{
-    match state {
-        InternalState::READY => true,
-        _ => false,
-    }
-}
+// The number of each: for the trace, for programs, and for the row of a table.
+impl From<InternalState> for u8 {
+    ghost from_gives = { λ state n. n ≡ state_no state };
 
-// Document 01's number of a state: for the trace, for programs, and for the row of a table.
-pub fn state_number(state: InternalState) -> u8
-    ensures { result ≡ state_no state }
-{
-    match state {
-        InternalState::START => 0,
-        InternalState::START_PART_READ => 1,
-        InternalState::START_STATUS_READ => 2,
-        InternalState::START_TURNING_OFF => 3,
-        InternalState::START_CTRL1_SET => 4,
-        InternalState::START_CCA_SET => 5,
-        InternalState::START_PWR_SET => 6,
-        InternalState::START_CTRL2_SET => 7,
-        InternalState::START_IRQMASK_SET => 8,
-        InternalState::START_XAH1_SET => 9,
-        InternalState::START_XAH0_SET => 10,
-        InternalState::START_PANID0_SET => 11,
-        InternalState::START_PANID1_SET => 12,
-        InternalState::START_IEEE0_SET => 13,
-        InternalState::START_IEEE1_SET => 14,
-        InternalState::START_IEEE2_SET => 15,
-        InternalState::START_IEEE3_SET => 16,
-        InternalState::START_IEEE4_SET => 17,
-        InternalState::START_IEEE5_SET => 18,
-        InternalState::START_IEEE6_SET => 19,
-        InternalState::START_IEEE7_SET => 20,
-        InternalState::START_SHORT0_SET => 21,
-        InternalState::START_SHORT1_SET => 22,
-        InternalState::START_CSMA_0_SEEDED => 23,
-        InternalState::START_CSMA_1_SEEDED => 24,
-        InternalState::START_RPC_SET => 25,
-        InternalState::ON_STATUS_READ => 26,
-        InternalState::ON_PLL_WAITING => 27,
-        InternalState::ON_PLL_SET => 28,
-        InternalState::READY => 29,
-        InternalState::SLEEP_TRX_OFF => 30,
-        InternalState::SLEEP => 31,
-        InternalState::SLEEP_WAKE => 32,
-        InternalState::TX_STATUS_PRECHECK1 => 33,
-        InternalState::TX_WRITING_FRAME => 34,
-        InternalState::TX_WRITING_FRAME_DONE => 35,
-        InternalState::TX_STATUS_PRECHECK2 => 36,
-        InternalState::TX_PLL_START => 37,
-        InternalState::TX_PLL_WAIT => 38,
-        InternalState::TX_ARET_ON => 39,
-        InternalState::TX_TRANSMITTING => 40,
-        InternalState::TX_READ_ACK => 41,
-        InternalState::TX_DONE => 42,
-        InternalState::TX_RETURN_TO_RX => 43,
-        InternalState::TX_PENDING => 44,
-        InternalState::CONFIG_SHORT0_SET => 45,
-        InternalState::CONFIG_SHORT1_SET => 46,
-        InternalState::CONFIG_PAN0_SET => 47,
-        InternalState::CONFIG_PAN1_SET => 48,
-        InternalState::CONFIG_IEEE0_SET => 49,
-        InternalState::CONFIG_IEEE1_SET => 50,
-        InternalState::CONFIG_IEEE2_SET => 51,
-        InternalState::CONFIG_IEEE3_SET => 52,
-        InternalState::CONFIG_IEEE4_SET => 53,
-        InternalState::CONFIG_IEEE5_SET => 54,
-        InternalState::CONFIG_IEEE6_SET => 55,
-        InternalState::CONFIG_IEEE7_SET => 56,
-        InternalState::CONFIG_POWER_SET => 57,
-        InternalState::CONFIG_DONE => 58,
-        InternalState::RX => 59,
-        InternalState::RX_TURNING_OFF => 60,
-        InternalState::RX_READY_TO_READ => 61,
-        InternalState::RX_START_READING => 62,
-        InternalState::RX_READING_FRAME_LEN => 63,
-        InternalState::RX_READING_FRAME_LEN_DONE => 64,
-        InternalState::RX_READING_FRAME => 65,
-        InternalState::RX_READING_FRAME_DONE => 66,
-        InternalState::RX_READING_FRAME_FCS_DONE => 67,
-        InternalState::RX_ENABLING_RECEPTION => 68,
+    fn from(state: InternalState) -> u8 {
+        state as u8
     }
 }

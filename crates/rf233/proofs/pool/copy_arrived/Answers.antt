@@ -11,4 +11,4 @@ returns c =
     rw c.copy.ensures
     (simp take-length at
     (part_copied a (a + 160 - a) c.args.arrived.now c.args.pool.now
-    (simp (length-take, length-drop) (omega (arith, c.requires.0, c.requires.1)))))
+    (simp (length-take, length-drop) (omega (arith, c.requires.fits, c.requires.in_pool)))))

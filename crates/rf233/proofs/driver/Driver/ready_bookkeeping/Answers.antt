@@ -2,7 +2,7 @@
 use Rattle.rf233.specs.Completion.{now_on, pending_interrupt, ready_bookkeeping}
 use Rattle.rf233.specs.Driver.{in_no}
 use Rattle.rf233.proofs.ChoiceLaws.{of_choice}
-use Rattle.rf233.proofs.completion.ready_bookkeeping.Goals as goal
+use Rattle.rf233.proofs.driver.Driver.ready_bookkeeping.Goals as goal
 
 pub returns : goal.returns
 unfolding ready_bookkeeping
@@ -11,5 +11,5 @@ returns c =
     rw (
       c.pending_interrupt.ensures,
       c.ready_marked.ensures,
-      of_choice (pending_interrupt x.a) (in_no 29 x.d) (now_on x.d) x.d,
+      of_choice (pending_interrupt x.a) (in_no 29 x.self) (now_on x.self) x.self,
     )

@@ -5,13 +5,13 @@ use Rattle.rf233.specs.Commit.{commit_table, commit_row}
 use Rattle.rf233.specs.Write.{table_write}
 use Rattle.rf233.specs.declared.write.Write.{Write}
 use Rattle.rf233.proofs.Tables.{same_row, table_case}
-use Rattle.rf233.proofs.commit.commit_case.Goals as goal
+use Rattle.rf233.proofs.driver.Driver.commit_case.Goals as goal
 
 pub returns : goal.returns
 unfolding trees tree_at
 returns c =
-    let n = c.state_number-n in
+    let n = c.from in
     let row = n.result - 45 in
     c.table_write.ensures
-    ∙ (ap (λ (w : Write). table_write w c.args.d) (same_row commit_table _ _ row (omega arith))
-    ∙ table_case commit_row 45 45 13 refl c.args.a c.args.d n.result n.ensures (omega arith) (omega arith))
+    ∙ (ap (λ (w : Write). table_write w c.args.self) (same_row commit_table _ _ row (omega arith))
+    ∙ table_case commit_row 45 45 13 refl c.args.a c.args.self n.result n.ensures (omega arith) (omega arith))
