@@ -1,19 +1,18 @@
 -- Laws for the book of custody: what numbers say of the places at which the record has a buffer, that the book keeps in step where one or
 -- two buffers move, how many buffers a place has, and what the record's tests say. Assumes nothing.
 use Rattle.std.proofs.Common.{◌≡◌, ℕ, zero, suc, ◌+◌, ◌*◌, ◌<◌, ◌≤◌, Bool, true, false, not, ◌||◌, T, eqb, ltb, List, [], ◌∷◌, length}
-use Rattle.std.proofs.Common.{get_or, set, sym, refl, ◌∙◌, add-one, arith, length-set, get_or-set_other, get_or-set_same, ltb-false, eq-eqb}
+use Rattle.std.proofs.Common.{get_or, set, refl, ◌∙◌, arith, length-set, get_or-set_other, get_or-set_same, ltb-false, eq-eqb}
 use Rattle.std.proofs.Common.{ne_eqb, eqb-true}
-use mathlib.Core.Bool.{or-false}
 use borrow.Author.Tests.{eqb-false}
 use Rattle.rf233.proofs.Conditions.{by_flag}
 use Rattle.custody.specs.Book.{filled}
 use Rattle.custody.specs.Claim.{only, kind_of}
-use Rattle.rf233.specs.Record.{is_held, one}
+use Rattle.std.specs.Prelude.{Option, None, is_some}
+use Rattle.rf233.specs.Record.{one}
 use Rattle.rf233.specs.Transfer.{under_way}
-use Rattle.rf233.specs.declared.driver.Slot.{Slot}
-use Rattle.rf233.specs.declared.driver.Slot.TheVariants.{Empty, Held}
+use Rattle.rf233.specs.declared.driver.Lent.{Lent}
 use Rattle.rf233.specs.declared.driver.Under.{Under}
-use Rattle.rf233.specs.declared.driver.Under.TheVariants.{Idle, Register, FrameRead, FrameWrite}
+use Rattle.rf233.specs.declared.driver.Under.TheVariants.{Idle}
 use Rattle.rf233.specs.Choice.{one_of}
 use Rattle.rf233.specs.Place.{client_place, own_place, transmit_place, receive_place, transfer_place, when}
 
@@ -31,45 +30,22 @@ sum_by o t r w = one o * own_place + one t * transmit_place + one r * receive_pl
 pub fit : (o t r w : Bool) → count_by o t r w ≤ 1
     → (four o t r w ≡ only (sum_by o t r w)) × (one (eqb (sum_by o t r w) transmit_place) ≡ one t)
     × (one (eqb (sum_by o t r w) receive_place) ≡ one r)
-fit true true r w h = absurd (omega arith)
-fit true false true w h = absurd (omega arith)
-fit true false false true h = absurd (omega arith)
-fit true false false false h = (refl, refl, refl)
-fit false true true w h = absurd (omega arith)
-fit false true false true h = absurd (omega arith)
-fit false true false false h = (refl, refl, refl)
-fit false false true true h = absurd (omega arith)
-fit false false true false h = (refl, refl, refl)
-fit false false false true h = (refl, refl, refl)
-fit false false false false h = (refl, refl, refl)
+fit o t r w h = grind arith
 
 -- and where it is its own place or the transfer's, the sum is that place's number
 pub own_or_under : (o t r w : Bool) → 1 ≤ one o + one w → count_by o t r w ≤ 1
     → T (one_of (own_place ∷ transfer_place ∷ []) (sum_by o t r w))
-own_or_under true true r w i h = absurd (omega arith)
-own_or_under true false true w i h = absurd (omega arith)
-own_or_under true false false true i h = absurd (omega arith)
-own_or_under true false false false i h = tt
-own_or_under false true r w i h = absurd (omega arith)
-own_or_under false false true w i h = absurd (omega arith)
-own_or_under false false false true i h = tt
-own_or_under false false false false i h = absurd (omega arith)
+own_or_under o t r w i h = grind arith
 
--- two tests that do not both hold, as a number
-one_of_lem : (p q : Bool) → (p ≡ true → q ≡ false) → one (p || q) ≡ one p + one q
-one_of_lem true q h = rw (h refl)
-one_of_lem false q h = omega arith
-
--- so of a buffer that is one of two, of the three own ones, of the first two of these
+-- that a buffer is one of two, of the three own ones, of the first two of these, as a number
 pub of_two : (m n b : ℕ) → eqb m n ≡ false → one (eqb m b || eqb n b) ≡ one (eqb m b) + one (eqb n b)
-of_two m n b h = one_of_lem (eqb m b) (eqb n b) (λ e. rw (← eqb-true m b e) (ne_eqb n m (λ z. eqb-false m n h (sym z))))
+of_two m n b h = grind arith
 
 pub of_three : (b : ℕ) → one (eqb 16 b || (eqb 17 b || eqb 18 b)) ≡ one (eqb 16 b) + (one (eqb 17 b) + one (eqb 18 b))
-of_three b =
-    omega (arith, one_of_lem (eqb 16 b) (eqb 17 b || eqb 18 b) (λ e. rw (← eqb-true 16 b e)), of_two 17 18 b refl)
+of_three b = grind arith
 
 pub of_first : (b : ℕ) → one (eqb 16 b || (eqb 17 b || false)) ≡ one (eqb 16 b) + one (eqb 17 b)
-of_first b = rw or-false (of_two 16 17 b refl)
+of_first b = grind arith
 
 pub same : (c : ℕ) → eqb c c ≡ true
 same c = eq-eqb c c refl
@@ -77,9 +53,7 @@ same c = eq-eqb c c refl
 -- buffer c put from place q to place p
 put : (l : List ℕ) (c p q : ℕ) → c < length l → get_or l c client_place ≡ q → (b : ℕ)
     → get_or (set l c p) b client_place + one (eqb c b) * q ≡ get_or l b client_place + one (eqb c b) * p
-put l c p q s e b =
-    by_flag (eqb c b) (λ z. rw (z, ← eqb-true c b z, get_or-set_same l c p client_place s, e) (omega arith))
-    (λ z. rw (z, get_or-set_other l c b p client_place (λ y. eqb-false c b z (sym y))) (omega arith))
+put l c p q s e b = grind (arith, get_or-set_same, get_or-set_other)
 
 -- a sum over the buffers below n; of equal numbers, and with one more for buffer c
 unfoldable pub sum : (ℕ → ℕ) → ℕ → ℕ
@@ -163,14 +137,9 @@ module _ {n s n' s' : ℕ → ℕ} {l : List ℕ} {a h d : ℕ} where
         },
       )
 
--- how many buffers are at a place: one buffer further; no more than there are; none where none is there
-pub filled_next : (p : ℕ) (l : List ℕ) (n : ℕ) → filled p l (n + 1) ≡ filled p l n + one (eqb (get_or l n client_place) p)
-unfolding filled
-filled_next p l n = rw add-one
-
+-- how many buffers are at a place: no more than there are; none where none is there
 one_most : (v : Bool) → one v ≤ 1
-one_most true = omega arith
-one_most false = omega arith
+one_most v = grind arith
 
 pub filled_most : (p : ℕ) (l : List ℕ) (n : ℕ) → filled p l n ≤ n
 unfolding filled
@@ -184,24 +153,18 @@ filled_none p l (suc n) h = rw (filled_none p l n (λ b i. h b (omega arith)), h
 
 -- what is the same for both directions of a register transfer is told by the kind without its direction
 pub as_kind : {A : Type 0} (f : ℕ → A) (n : ℕ) → f 2 ≡ f 1 → f n ≡ f (kind_of n)
-as_kind f n e = by_flag (eqb n 2) (λ q. rw (eqb-true n 2 q) e) (λ q. rw q)
+as_kind f n e = grind arith
 
 -- no transfer is under way, and no buffer in a place
 pub idle_is : (u : Under) → not (under_way u) ≡ true → u ≡ Idle
-idle_is Idle e = refl
-idle_is Register e = cc
-idle_is (FrameRead c l) e = cc
-idle_is (FrameWrite c l) e = cc
+idle_is u e = grind arith
 
-pub empty_is : (s : Slot) → is_held s ≡ false → s ≡ Empty
-empty_is Empty e = refl
-empty_is (Held c l) e = cc
+pub empty_is : (s : Option Lent) → is_some s ≡ false → s ≡ None
+empty_is s e = grind arith
 
 -- of at most one a test makes the same number
 pub some_one : (n : ℕ) → n ≤ 1 → one (ltb 0 n) ≡ n
-some_one zero h = refl
-some_one (suc zero) h = refl
-some_one (suc (suc n)) h = absurd (omega arith)
+some_one n h = grind arith
 
 -- a client's buffer is below 16
 pub low : (c : ℕ) → ltb 15 c ≡ false → c < 16

@@ -1,5 +1,6 @@
 -- Each call of demand 3 keeps the invariant of Custody.antt, refused or not. Assumes nothing.
-use Rattle.std.proofs.Common.{◌≡◌, ℕ, ◌+◌, Bool, true, false, not, ◌||◌, T, eqb, ltb, leb, List, [], ℤ, sym, refl, ap, subst, arith}
+use Rattle.std.proofs.Common.{rules}
+use Rattle.std.proofs.Common.{◌≡◌, ℕ, ◌+◌, Bool, true, false, not, ◌||◌, T, eqb, ltb, leb, List, [], ℤ, sym, refl, subst, arith}
 use Rattle.std.proofs.Common.{ltb-false, le-leb, leb-false}
 use borrow.Author.Tests.{not-false}
 use Rattle.rf233.specs.Action.{actions}
@@ -8,22 +9,22 @@ use Rattle.rf233.specs.Completion.{completed}
 use Rattle.rf233.specs.Config.{begin_start, start_call, begin_stop, stop_call, begin_commit, commit_call, reset_call, set_power}
 use Rattle.rf233.specs.Config.{set_channel}
 use Rattle.rf233.specs.Data.{handle_bad, tx_busy, begin_transmit, transmit_call, receive_buffer_call}
-use Rattle.rf233.specs.Described.{tx_length_bad}
+use Rattle.rf233.specs.Described.{tx_length_bad, rx_length_bad}
 use Rattle.rf233.specs.Driver.{flag, flagged, with_state, with_buffers, with_tx, with_rx, with_tx_len}
 use Rattle.rf233.specs.Driver.Flag.{radio_on, transmitting, config_pending, sleep_pending, wake_pending, receiving}
 use Rattle.rf233.specs.Guard.{Called}
 use Rattle.rf233.specs.Interrupt.{handle_interrupt}
 use Rattle.rf233.specs.Kernel.{fired_call, completing, completion_call}
 use Rattle.rf233.specs.Record as rec
-use Rattle.rf233.specs.Record.{is_held, record_has}
+use Rattle.std.specs.Prelude.{Some, is_some}
+use Rattle.rf233.specs.Record.{lent, record_has}
+use Rattle.rf233.specs.declared.transfer.TransferKind.TheVariants as transfer
 use Rattle.rf233.specs.State.{state_no}
 use Rattle.rf233.specs.Step.{quiet}
 use Rattle.rf233.specs.Transfer.{to_complete}
 use Rattle.rf233.specs.declared.answer.Outcome.{Outcome}
 use Rattle.rf233.specs.declared.driver.Driver.{Driver}
-use Rattle.rf233.specs.declared.driver.Slot.TheVariants.{Held}
 use Rattle.rf233.specs.declared.driver.Under.{Under}
-use Rattle.rf233.specs.declared.driver.Under.TheVariants.{Idle, Register, FrameRead, FrameWrite}
 use Rattle.rf233.specs.declared.state.InternalState.TheVariants.{SLEEP_WAKE, SLEEP_TRX_OFF, CONFIG_SHORT0_SET, TX_STATUS_PRECHECK1}
 use Rattle.custody.specs.Book.{Page, Fed, called, entered}
 use Rattle.custody.specs.Book.Fed.{completes, other, lends_transmit, lends_receive}
@@ -71,17 +72,11 @@ turned f k n d e v =
     rw e (record { match = refuses d.buffers k v.match (refused n d).reply refl refl; fitted = v.fitted; lengths = v.lengths })
 
 -- the place that a frame transfer's buffer came from
-sent_is : (u : Under) → is_held (rec.tx_under_way u) ≡ eqb (frame_of (kind u)) 2
-sent_is Idle = refl
-sent_is Register = refl
-sent_is (FrameRead c l) = refl
-sent_is (FrameWrite c l) = refl
+sent_is : (u : Under) → is_some (rec.tx_under_way u) ≡ eqb (frame_of (kind u)) 2
+sent_is u = grind arith
 
-received_is : (u : Under) → is_held (rec.rx_under_way u) ≡ eqb (frame_of (kind u)) 1
-received_is Idle = refl
-received_is Register = refl
-received_is (FrameRead c l) = refl
-received_is (FrameWrite c l) = refl
+received_is : (u : Under) → is_some (rec.rx_under_way u) ≡ eqb (frame_of (kind u)) 1
+received_is u = grind arith
 
 module _ (k : Page) (d : Driver) (v : Inv k d) where
   abbrev Yields : Fed → Called → Type 0
@@ -96,8 +91,8 @@ module _ (k : Page) (d : Driver) (v : Inv k d) where
   started_keeps =
       let e = flagged sleep_pending false d in
       branch (After k) _ _ _
-      (λ y. asks_any k d v (with_state SLEEP_WAKE e) refl 1 _ _ refl refl (join_32.gives (of d) v.fitted tt y))
-      (λ y. asks_any k d v (flagged wake_pending true e) refl 1 _ _ refl refl (join_same.gives (of d) v.fitted tt tt))
+      (λ y. asks_any k d v (with_state SLEEP_WAKE e) refl transfer.RegisterRead _ _ refl refl (join_32.gives (of d) v.fitted tt y))
+      (λ y. asks_any k d v (flagged wake_pending true e) refl transfer.RegisterRead _ _ refl refl (join_same.gives (of d) v.fitted tt tt))
 
   start_keeps : (p : List ℕ) → Yields other (start_call d p)
   unfolding start_call
@@ -116,7 +111,7 @@ module _ (k : Page) (d : Driver) (v : Inv k d) where
   unfolding begin_stop
   stopped_keeps =
       branch (After k) _ _ _
-      (λ y. asks_any k d v (with_state SLEEP_TRX_OFF (flagged radio_on false d)) refl 2 _ _ refl refl
+      (λ y. asks_any k d v (with_state SLEEP_TRX_OFF (flagged radio_on false d)) refl transfer.RegisterWrite _ _ refl refl
       (join_30.gives (of d) v.fitted tt y))
       (λ y. others k d v (flagged sleep_pending true d) refl v.fitted)
 
@@ -137,7 +132,7 @@ module _ (k : Page) (d : Driver) (v : Inv k d) where
       let e = flagged config_pending true d in
       branch (After k) _ _ _ (λ y. v)
       (λ y. branch (After k) _ _ _
-      (λ z. asks_any k d v (with_state CONFIG_SHORT0_SET e) refl 2 _ _ refl refl (join_45.gives (of d) v.fitted tt z))
+      (λ z. asks_any k d v (with_state CONFIG_SHORT0_SET e) refl transfer.RegisterWrite _ _ refl refl (join_45.gives (of d) v.fitted tt z))
       (λ z. others k d v e refl v.fitted))
 
   commit_keeps : (p : List ℕ) → Yields other (commit_call d p)
@@ -183,42 +178,32 @@ module _ (k : Page) (d : Driver) (v : Inv k d) where
 
   -- the lengths with a transmit buffer taken in: none was there, and 3, 4 and 7 did not refuse it
   lengths_sent : (b l n : ℕ) → T (not (ltb 160 l)) → T (not (leb l (n + 4))) → T (not (ltb 125 n))
-      → is_held (rec.tx_under_way d.buffers.under) ≡ false
-      → Lengths (with_tx_len (n + 2) (with_tx (Held b l) d.buffers))
+      → is_some (rec.tx_under_way d.buffers.under) ≡ false
+      → Lengths (with_tx_len (n + 2) (with_tx (Some (lent b l)) d.buffers))
   lengths_sent b l n h s m e =
       let g = v.lengths in
       let most = ltb-false 160 l (is_false (ltb 160 l) h) in
       let room = leb-false l (n + 4) (is_false (leb l (n + 4)) s) in
       let long = ltb-false 125 n (is_false (ltb 125 n) m) in
-      record {
-        whole = g.whole;
-        present = g.present;
-        tx =
-            rw (
-              le-leb 2 (n + 2) (omega arith),
-              le-leb (n + 2) 127 (omega arith),
-              le-leb (n + 2 + 3) l (omega arith),
-              le-leb l 160 (omega arith),
-            );
-        tx_under = ap (λ x. tx_length_bad x (n + 2)) (empty_is (rec.tx_under_way d.buffers.under) e);
-        rx = g.rx;
-        rx_under = g.rx_under;
-      }
+      let tx : tx_length_bad (Some (lent b l)) (n + 2) ≡ false =
+      rw (
+        le-leb 2 (n + 2) (omega arith),
+        le-leb (n + 2) 127 (omega arith),
+        le-leb (n + 2 + 3) l (omega arith),
+        le-leb l 160 (omega arith),
+      )
+      in
+      let none = empty_is (rec.tx_under_way d.buffers.under) e in
+      search rules
 
   lengths_received : (b l : ℕ) → T (not (ltb 160 l)) → T (not (ltb l 129))
-      → Lengths (with_rx (Held b l) d.buffers)
+      → Lengths (with_rx (Some (lent b l)) d.buffers)
   lengths_received b l h s =
       let g = v.lengths in
       let most = ltb-false 160 l (is_false (ltb 160 l) h) in
       let least = ltb-false l 129 (is_false (ltb l 129) s) in
-      record {
-        whole = g.whole;
-        present = g.present;
-        tx = g.tx;
-        tx_under = g.tx_under;
-        rx = rw (le-leb 129 l (omega arith), le-leb l 160 (omega arith));
-        rx_under = g.rx_under;
-      }
+      let rx : rx_length_bad (Some (lent b l)) ≡ false = rw (le-leb 129 l (omega arith), le-leb l 160 (omega arith)) in
+      search rules
 
   done_transmitting : (b l n : ℕ) → IsDone (begin_transmit d b l n)
   unfolding begin_transmit
@@ -230,24 +215,24 @@ module _ (k : Page) (d : Driver) (v : Inv k d) where
       → After (called (lends_transmit b) k) (begin_transmit d b l n)
   unfolding begin_transmit
   transmitting_keeps b l n h y s m r =
-      let t = is_held d.buffers.tx_buf in
+      let t = is_some d.buffers.tx_buf in
       let u = d.buffers.under in
-      let e = flagged transmitting true (with_buffers (with_tx_len (n + 2) (with_tx (Held b l) d.buffers)) d) in
+      let e = flagged transmitting true (with_buffers (with_tx_len (n + 2) (with_tx (Some (lent b l)) d.buffers)) d) in
       let none = is_false t (nor_left t _ y) in
-      let sends = nor_left (is_held (rec.tx_under_way u)) (flag transmitting d.flags) (nor_right t _ y) in
+      let sends = nor_left (is_some (rec.tx_under_way u)) (flag transmitting d.flags) (nor_right t _ y) in
       let free : T (not (t || (eqb (frame_of (kind u)) 2 || flag transmitting d.flags))) = subst
       (λ x. T (not (t || (x || flag transmitting d.flags)))) (sent_is u) y in
       let low = ltb-false 15 b (is_false (ltb 15 b) (nor_left (ltb 15 b) (ltb 160 l) h)) in
       let w : Inv (called (lends_transmit b) k) e =
       record {
         match =
-            lends_tx d.buffers k v.match b l (n + 2) (omega arith) none (is_false (is_held (rec.tx_under_way u)) sends)
+            lends_tx d.buffers k v.match (lent b l) (n + 2) (omega arith) none (is_false (is_some (rec.tx_under_way u)) sends)
             (is_false (record_has d.buffers b) r);
         fitted = tx_fits.gives (of d) v.fitted tt free;
-        lengths = lengths_sent b l n (nor_right (ltb 15 b) (ltb 160 l) h) s m (is_false (is_held (rec.tx_under_way u)) sends);
+        lengths = lengths_sent b l n (nor_right (ltb 15 b) (ltb 160 l) h) s m (is_false (is_some (rec.tx_under_way u)) sends);
       } in
       branch (After (called (lends_transmit b) k)) _ _ _
-      (λ z. asks_any _ e w (with_state TX_STATUS_PRECHECK1 e) refl 1 _ _ refl refl
+      (λ z. asks_any _ e w (with_state TX_STATUS_PRECHECK1 e) refl transfer.RegisterRead _ _ refl refl
       (join_33.gives (of d) v.fitted tt
       (pair (not (t || (eqb (frame_of (kind u)) 2 || flag transmitting d.flags))) (eqb (state_no d.state) 29) free
       (right (not (flag receiving d.flags)) (eqb (state_no d.state) 29) z))))
@@ -271,7 +256,7 @@ module _ (k : Page) (d : Driver) (v : Inv k d) where
   receive_keeps b l =
       let f = lends_receive b in
       let u = d.buffers.under in
-      let t = is_held d.buffers.rx_buf in
+      let t = is_some d.buffers.rx_buf in
       branch (Entered f k) _ _ _ (λ y. turned f k 7 d refl v)
       (λ h. branch (Entered f k) _ _ _ (λ y. turned f k 9 d refl v)
       (λ s. branch (Entered f k) _ _ _ (λ y. turned f k 10 d refl v)
@@ -279,8 +264,8 @@ module _ (k : Page) (d : Driver) (v : Inv k d) where
       (λ r. let low = ltb-false 15 b (is_false (ltb 15 b) (nor_left (ltb 15 b) (ltb 160 l) h)) in
       took f k _ refl (record {
         match =
-            lends_rx d.buffers k v.match b l (omega arith) (is_false t (nor_left t _ y))
-            (is_false (is_held (rec.rx_under_way u)) (nor_right t _ y)) (is_false (record_has d.buffers b) r);
+            lends_rx d.buffers k v.match (lent b l) (omega arith) (is_false t (nor_left t _ y))
+            (is_false (is_some (rec.rx_under_way u)) (nor_right t _ y)) (is_false (record_has d.buffers b) r);
         fitted = rx_fits.gives (of d) v.fitted tt (subst (λ x. T (not (t || x))) (received_is u) y);
         lengths = lengths_received b l (nor_right (ltb 15 b) (ltb 160 l) h) s;
       })))))

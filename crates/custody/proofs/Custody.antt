@@ -1,5 +1,6 @@
 -- The invariant (`Inv`): the book agrees with the driver's record, the record fits the state, the lengths are within their bounds. What a
 -- starter does, and a row's access, keeps it (`access_keeps`). From the moves of Match.antt and the tests of Fit.antt. Assumes nothing.
+use Rattle.std.proofs.Common.{rules}
 use Rattle.std.proofs.Common.{◌≡◌, ℕ, ◌+◌, ◌≤◌, true, false, ◌&&◌, T, eqb, leb, List, [], ◌∷◌, sym, refl, ap, ◌∙◌, subst, arith, leb→le}
 use Rattle.std.proofs.Common.{le-leb, leb-true}
 use Rattle.rf233_const.specs.Command as command
@@ -7,23 +8,26 @@ use Rattle.rf233.specs.Case.{accessed, handed, without_tx, without_rx}
 use Rattle.rf233.specs.Choice.{pick, within}
 use Rattle.rf233.specs.Described.{tx_length_bad, rx_length_bad}
 use Rattle.rf233.specs.Driver.{with_spi_buf_len}
-use Rattle.rf233.specs.Record.{is_held, tx_under_way, rx_under_way}
+use Rattle.std.specs.Prelude.{Some, is_some}
+use Rattle.rf233.specs.Record.{tx_under_way, rx_under_way}
 use Rattle.rf233.specs.Rows.{Access, Shown}
 use Rattle.rf233.specs.Rows.Access.{none, reads, writes, reads_length, reads_frame, writes_frame}
 use Rattle.rf233.specs.Rows.Shown.{plain, power_changed, config_done, sent_back, dropped_back, received_back}
 use Rattle.rf233.specs.Starter as starter
 use Rattle.rf233.specs.Starter.{buffers_away, register_transfer, frame_read, frame_read_into, frame_write, frame_write_from}
 use Rattle.rf233.specs.Step.{step_of}
-use Rattle.rf233.specs.Transfer.{transfer_of, free_to_start}
+use Rattle.rf233.specs.Transfer.{kind_no, kind_value, transfer_of, free_to_start}
+use Rattle.rf233.specs.declared.driver.Lent.{Lent}
+use Rattle.rf233.specs.declared.transfer.TransferKind.{TransferKind}
+use Rattle.rf233.specs.declared.transfer.TransferKind.TheVariants as transfer
 use Rattle.rf233.specs.declared.action.Actions.{Actions}
 use Rattle.rf233.specs.declared.answer.Outcome.{Outcome}
 use Rattle.rf233.specs.declared.arrived.Arrived.{Arrived}
 use Rattle.rf233.specs.declared.driver.Buffers.{Buffers}
 use Rattle.rf233.specs.declared.driver.Driver.{Driver}
-use Rattle.rf233.specs.declared.driver.Slot.TheVariants.{Held}
 use Rattle.rf233.specs.declared.driver.Under.TheVariants.{Idle, Register, FrameRead, FrameWrite}
 use Rattle.rf233.specs.declared.starter.Started.{Started}
-use Rattle.custody.specs.Book.{Page, begun, noted_all}
+use Rattle.custody.specs.Book.{Page, write_no, read_no, begun, noted_all}
 use Rattle.custody.specs.Claim.{kind_of}
 use Rattle.laws.proofs.Logic.{both_left, left, right}
 use Rattle.rf233.proofs.Facts.{of, under, holding}
@@ -50,7 +54,7 @@ pub record Inv (k : Page) (d : Driver) : Type 0 where
 
 -- the book once the transfer of a step is entered
 abbrev pub with_transfer : Outcome → Page → Page
-with_transfer o k = let t = o.reply.transfer in begun t.kind t.write t.read k
+with_transfer o k = let t = o.reply.transfer in begun (kind_no t) (write_no t) (read_no t) k
 
 -- the invariant after a step: its actions are entered, and then its transfer
 abbrev pub After : Page → Outcome → Type 0
@@ -72,8 +76,8 @@ handed_keeps P t r (received_back ∷ more) b p = handed_keeps P t r more (witho
 pub handed_lengths : (sh : List Shown) (b : Buffers) → Lengths b → Lengths (handed sh b)
 handed_lengths =
     handed_keeps Lengths
-    (λ b g. record { whole = g.whole; present = g.present; tx = refl; tx_under = g.tx_under; rx = g.rx; rx_under = g.rx_under })
-    (λ b g. record { whole = g.whole; present = g.present; tx = g.tx; tx_under = g.tx_under; rx = refl; rx_under = g.rx_under })
+    (λ b g. search rules)
+    (λ b g. search rules)
 
 pub handed_free : (sh : List Shown) (b : Buffers) → free_to_start b ≡ true → free_to_start (handed sh b) ≡ true
 handed_free = handed_keeps (λ b. free_to_start b ≡ true) (λ b e. e) (λ b e. e)
@@ -81,32 +85,18 @@ handed_free = handed_keeps (λ b. free_to_start b ≡ true) (λ b e. e) (λ b e.
 -- ---- the lengths once a transfer has begun
 
 pub lengths_register : (b : Buffers) → Lengths b → Lengths (buffers_away Register b)
-lengths_register b g = record { whole = g.whole; present = g.present; tx = g.tx; tx_under = refl; rx = g.rx; rx_under = refl }
+lengths_register b g = search rules
 
-lengths_read : (c l n : ℕ) (b : Buffers) → b.rx_buf ≡ Held c l → n ≤ 127 → Lengths b
-    → Lengths (with_spi_buf_len (n + 2) (buffers_away (FrameRead c l) b))
-lengths_read c l n b e h g =
+lengths_read : (x : Lent) (n : ℕ) (b : Buffers) → b.rx_buf ≡ Some x → n ≤ 127 → Lengths b
+    → Lengths (with_spi_buf_len (n + 2) (buffers_away (FrameRead x) b))
+lengths_read x n b e h g =
     let w = b.spi_buf_whole in
     let least = leb-true 129 w (both_left (leb 129 w) _ g.whole) in
-    record {
-      whole = g.whole;
-      present = rw (le-leb 2 (n + 2) (omega arith), le-leb (n + 2) w (omega arith));
-      tx = g.tx;
-      tx_under = refl;
-      rx = refl;
-      rx_under = ap rx_length_bad (sym e) ∙ g.rx;
-    }
+    let present : within 2 w (n + 2) ≡ true = rw (le-leb 2 (n + 2) (omega arith), le-leb (n + 2) w (omega arith)) in
+    search rules
 
-lengths_write : (c l : ℕ) (b : Buffers) → b.tx_buf ≡ Held c l → Lengths b → Lengths (buffers_away (FrameWrite c l) b)
-lengths_write c l b e g =
-    record {
-      whole = g.whole;
-      present = g.present;
-      tx = refl;
-      tx_under = ap (λ s. tx_length_bad s b.tx_len) (sym e) ∙ g.tx;
-      rx = g.rx;
-      rx_under = refl;
-    }
+lengths_write : (x : Lent) (b : Buffers) → b.tx_buf ≡ Some x → Lengths b → Lengths (buffers_away (FrameWrite x) b)
+lengths_write x b e g = search rules
 
 -- ---- what is started where a transfer may begin
 
@@ -114,59 +104,62 @@ module _ (k : Page) (e : Driver) (m : Match e.buffers k) (g : Lengths e.buffers)
   own_there : Own e.buffers.spi_tx e.buffers.spi_rx e.buffers.spi_buf Idle
   own_there = rw (idle_is e.buffers.under i) at m.own
 
-  pub register_begins : (n x y : ℕ)
+  pub register_begins : (n : TransferKind) (x y : ℕ)
       → register_transfer n x y e ≡ starter.begins (transfer_of n 16 17 x y 2 2) (buffers_away Register e.buffers) e
   unfolding register_transfer pick
   register_begins n x y = rw (i, own_there.tx, own_there.rx)
 
-  read_begins : (n c l : ℕ) → frame_read_into (Held c l) n e ≡ starter.begins (transfer_of 3 18 c command.frame_read n (n + 2) l)
-      (with_spi_buf_len (n + 2) (buffers_away (FrameRead c l) e.buffers)) e
+  read_begins : (n : ℕ) (x : Lent) → frame_read_into (Some x) n e
+      ≡ starter.begins (transfer_of transfer.FrameRead 18 x.buffer command.frame_read n (n + 2) x.length)
+      (with_spi_buf_len (n + 2) (buffers_away (FrameRead x) e.buffers)) e
   unfolding frame_read_into pick
-  read_begins n c l = rw (i, own_there.buf)
+  read_begins n x = rw (i, own_there.buf)
 
-  write_begins : (c l : ℕ) → frame_write_from (Held c l) e
-      ≡ starter.begins (transfer_of 4 c 18 command.frame_write e.buffers.tx_len (e.buffers.tx_len + 2) e.buffers.spi_buf_len)
-      (buffers_away (FrameWrite c l) e.buffers) e
+  write_begins : (x : Lent) → frame_write_from (Some x) e
+      ≡ starter.begins
+      (transfer_of transfer.FrameWrite x.buffer 18 command.frame_write e.buffers.tx_len (e.buffers.tx_len + 2) e.buffers.spi_buf_len)
+      (buffers_away (FrameWrite x) e.buffers) e
   unfolding frame_write_from pick
-  write_begins c l = rw (i, own_there.buf)
+  write_begins x = rw (i, own_there.buf)
 
   -- the invariant once a starter has done its part, whatever the actions beside it
   module _ (l : Actions) where
     abbrev Begun : Started → Type 0
     Begun s = Inv (with_transfer (step_of s l) k) s.driver
 
-    pub register_keeps : (n x y : ℕ) → kind_of n ≡ 1 → eqb n 0 ≡ false → T (fit (under access (of e))) → Begun (register_transfer n x y e)
+    pub register_keeps : (n : TransferKind) (x y : ℕ) → kind_of (kind_value n) ≡ 1 → eqb (kind_value n) 0 ≡ false
+        → T (fit (under access (of e))) → Begun (register_transfer n x y e)
     register_keeps n x y q z o =
         subst Begun (sym (register_begins n x y))
-        (record { match = rw z (begins e.buffers k m Register n tt q i); fitted = o; lengths = lengths_register e.buffers g })
+        (record { match = rw z (begins e.buffers k m Register (kind_value n) tt q i); fitted = o; lengths = lengths_register e.buffers g })
 
-    reading_keeps : (n : ℕ) → n ≤ 127 → T (is_held e.buffers.rx_buf && fit (holding (of e).tx false (under reading (of e))))
+    reading_keeps : (n : ℕ) → n ≤ 127 → T (is_some e.buffers.rx_buf && fit (holding (of e).tx false (under reading (of e))))
         → Begun (frame_read n e)
     reading_keeps n h o =
-        full e.buffers.rx_buf (left (is_held e.buffers.rx_buf) _ o)
-        (λ c l q. subst Begun (sym (ap (λ s. frame_read_into s n e) q ∙ read_begins n c l))
+        full e.buffers.rx_buf (left (is_some e.buffers.rx_buf) _ o)
+        (λ x q. subst Begun (sym (ap (λ s. frame_read_into s n e) q ∙ read_begins n x))
         (record {
-          match = begins e.buffers k m (FrameRead c l) 3 q refl i;
-          fitted = right (is_held e.buffers.rx_buf) _ o;
-          lengths = lengths_read c l n e.buffers q h g;
+          match = begins e.buffers k m (FrameRead x) 3 q refl i;
+          fitted = right (is_some e.buffers.rx_buf) _ o;
+          lengths = lengths_read x n e.buffers q h g;
         }))
 
     writing_keeps : T (ok_access writes_frame true (of e)) → Begun (frame_write e)
     writing_keeps o =
-        full e.buffers.tx_buf (left (is_held e.buffers.tx_buf) _ o)
-        (λ c l q. subst Begun (sym (ap (λ s. frame_write_from s e) q ∙ write_begins c l))
+        full e.buffers.tx_buf (left (is_some e.buffers.tx_buf) _ o)
+        (λ x q. subst Begun (sym (ap (λ s. frame_write_from s e) q ∙ write_begins x))
         (record {
-          match = begins e.buffers k m (FrameWrite c l) 4 q refl i;
-          fitted = right (is_held e.buffers.tx_buf) _ o;
-          lengths = lengths_write c l e.buffers q g;
+          match = begins e.buffers k m (FrameWrite x) 4 q refl i;
+          fitted = right (is_some e.buffers.tx_buf) _ o;
+          lengths = lengths_write x e.buffers q g;
         }))
 
     -- an access that passes the test of the rows
     pub access_keeps : (a : Arrived) (x : Access) → T (ok_access x (within 11 127 a.result) (of e))
         → Inv (with_transfer (accessed x a l e) k) (accessed x a l e).driver
     access_keeps a none o = record { match = m; fitted = o; lengths = g }
-    access_keeps a (reads r) o = register_keeps 1 _ _ refl refl o
-    access_keeps a (writes r v) o = register_keeps 2 _ _ refl refl o
+    access_keeps a (reads r) o = register_keeps transfer.RegisterRead _ _ refl refl o
+    access_keeps a (writes r v) o = register_keeps transfer.RegisterWrite _ _ refl refl o
     access_keeps a reads_length o = reading_keeps 0 (omega arith) o
     access_keeps a reads_frame o =
         let f = within 11 127 a.result in

@@ -1,6 +1,6 @@
 -- Demand 3, `Custody` of specs/Claim.antt: one claim about any list of calls on any new driver, with any pool at each call. By induction
 -- on the list, from the invariant that every call keeps. Assumes nothing.
-use Rattle.std.proofs.Common.{◌≡◌, ℕ, ◌<◌, true, not, eqb, leb, List, [], ◌∷◌, length, get_or, sym, refl, ap, ◌∙◌, arith, eqb-true, le-leb}
+use Rattle.std.proofs.Common.{◌≡◌, ℕ, ◌<◌, true, not, eqb, leb, List, [], ◌∷◌, length, get_or, refl, ap, ◌∙◌, arith, le-leb}
 use Rattle.std.proofs.Common.{leb-true}
 use mathlib.Core.Bool.{or-false}
 use Rattle.rf233.specs.Config.{channel_fits}
@@ -14,7 +14,6 @@ use Rattle.rf233.specs.declared.answer.Outcome.{Outcome}
 use Rattle.custody.proofs.Custody.{Inv}
 use Rattle.custody.proofs.Calls.{keeps}
 use Rattle.custody.proofs.Undescribed.{sound}
-use Rattle.rf233.proofs.Conditions.{by_flag}
 use Rattle.rf233.proofs.Fit.{fit}
 use Rattle.laws.proofs.Logic.{left, is_true, both_left}
 use Rattle.rf233.proofs.ChoiceLaws.{branch}
@@ -80,7 +79,7 @@ custody l c es = kept (run (new_world l c) es) (run_holds (new_world l c) es (ne
 
 -- so the query's answer is where the book has the buffer
 first_only : (p : ℕ) → first_place (only p) ≡ p
-first_only p = by_flag (eqb p client_place) (λ e. rw e (sym (eqb-true p client_place e))) (λ e. rw e)
+first_only p = grind arith
 
 pub query_is_the_book : (l c : ℕ) (es : List Event) (b : ℕ) → b < 19
     → place_of (run (new_world l c) es).driver.buffers b ≡ get_or (run (new_world l c) es).book.places b client_place

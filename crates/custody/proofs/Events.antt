@@ -1,16 +1,17 @@
 -- A firing and a completion keep the invariant of Custody.antt, whatever is under way, and so does a register transfer that is asked for.
 -- Assumes nothing.
+use Rattle.std.proofs.Common.{rules}
+use Rattle.std.proofs.Common.{arith}
 use Rattle.std.proofs.Common.{◌≡◌, ℕ, true, false, not, T, eqb, [], sym, refl, ap, ◌∙◌, subst}
 use borrow.Author.Tests.{not-false}
 use Rattle.rf233.specs.Action.{actions}
 use Rattle.rf233.specs.Choice.{pick}
 use Rattle.rf233.specs.Completion.{buffers_back, transfer_over, completed}
-use Rattle.rf233.specs.Described.{tx_length_bad, rx_length_bad}
 use Rattle.rf233.specs.Interrupt.{handle_interrupt}
-use Rattle.rf233.specs.Record.{tx_under_way, rx_under_way}
 use Rattle.rf233.specs.Starter.{register_transfer}
 use Rattle.rf233.specs.Step.{step_of}
-use Rattle.rf233.specs.Transfer.{under_way, free_to_start, to_complete}
+use Rattle.rf233.specs.Transfer.{kind_value, under_way, free_to_start, to_complete}
+use Rattle.rf233.specs.declared.transfer.TransferKind.{TransferKind}
 use Rattle.rf233.specs.declared.arrived.Arrived.{Arrived}
 use Rattle.rf233.specs.declared.driver.Buffers.{Buffers}
 use Rattle.rf233.specs.declared.driver.Driver.{Driver}
@@ -34,41 +35,16 @@ use Rattle.custody.proofs.Undescribed.{besides_none}
 
 lengths_back : (u : Under) (b : Buffers) → b.under ≡ u → Lengths b → Lengths (buffers_back u b)
 lengths_back Idle b e g = g
-lengths_back Register b e g =
-    record { whole = g.whole; present = g.present; tx = g.tx; tx_under = refl; rx = g.rx; rx_under = refl }
-lengths_back (FrameRead c l) b e g =
-    record {
-      whole = g.whole;
-      present = g.present;
-      tx = g.tx;
-      tx_under = refl;
-      rx = ap (λ x. rx_length_bad (rx_under_way x)) (sym e) ∙ g.rx_under;
-      rx_under = refl;
-    }
-lengths_back (FrameWrite c l) b e g =
-    record {
-      whole = g.whole;
-      present = g.present;
-      tx = ap (λ x. tx_length_bad (tx_under_way x) b.tx_len) (sym e) ∙ g.tx_under;
-      tx_under = refl;
-      rx = g.rx;
-      rx_under = refl;
-    }
-
--- what holds of each kind of transfer holds where there is one to complete
-busy_case : (P : Under → Type 0) → P Register → ((c l : ℕ) → P (FrameRead c l)) → ((c l : ℕ) → P (FrameWrite c l)) → (u : Under)
-    → under_way u ≡ true → P u
-busy_case P r x y Idle i = absurd (subst T (sym i) tt)
-busy_case P r x y Register i = r
-busy_case P r x y (FrameRead c l) i = x c l
-busy_case P r x y (FrameWrite c l) i = y c l
+lengths_back Register b e g = search rules
+lengths_back (FrameRead x) b e g = search rules
+lengths_back (FrameWrite x) b e g = search rules
 
 -- one is under way, and none is with its buffers back
 busy_now : (u : Under) → under_way u ≡ true → T (not (is_none (kind u)))
-busy_now = busy_case (λ u. T (not (is_none (kind u)))) tt (λ c l. tt) (λ c l. tt)
+busy_now u i = grind arith
 
 back_free : (b : Buffers) (u : Under) → under_way u ≡ true → free_to_start (buffers_back u b) ≡ true
-back_free b = busy_case (λ u. free_to_start (buffers_back u b) ≡ true) refl (λ c l. refl) (λ c l. refl)
+back_free b u i = grind arith
 
 returned_keeps : (k : Page) (d : Driver) → Inv k d → to_complete d.buffers ≡ true → Rest (ended k) (transfer_over d)
 returned_keeps k d v i =
@@ -90,7 +66,7 @@ completed_keeps k a d v i =
 
 -- the kind of transfer that a request joins
 joins_busy : (u : Under) → under_way u ≡ true → joins (kind u) ≡ kind u
-joins_busy = busy_case (λ u. joins (kind u) ≡ kind u) refl (λ c l. refl) (λ c l. refl)
+joins_busy u i = grind arith
 
 module _ (k : Page) (d : Driver) (v : Inv k d) where
   -- the invariant of a driver with the same record
@@ -99,7 +75,8 @@ module _ (k : Page) (d : Driver) (v : Inv k d) where
       record { match = subst (λ b. Match b k) (sym q) v.match; fitted = o; lengths = subst Lengths (sym q) v.lengths }
 
   -- a register transfer is asked for
-  pub asks_any : (e : Driver) → e.buffers ≡ d.buffers → (n x y : ℕ) → kind_of n ≡ 1 → eqb n 0 ≡ false
+  pub asks_any : (e : Driver) → e.buffers ≡ d.buffers → (n : TransferKind) (x y : ℕ) → kind_of (kind_value n) ≡ 1
+      → eqb (kind_value n) 0 ≡ false
       → T (fit (under (joins (kind d.buffers.under)) (of e)))
       → After k (step_of (register_transfer n x y e) (actions []))
   asks_any e q n x y z w o =

@@ -21,6 +21,7 @@ use Rattle.rf233.specs.declared.action.Action.TheVariants.{ResetMakeOutput, Slee
 use Rattle.rf233.specs.declared.answer.Outcome.{Outcome}
 use Rattle.rf233.specs.declared.arrived.Arrived.{Arrived}
 use Rattle.rf233.specs.declared.driver.Driver.{Driver}
+use Rattle.rf233.specs.declared.transfer.TransferKind.TheVariants as transfer
 use Rattle.rf233.proofs.ChoiceLaws.{branch, either}
 use Rattle.rf233.proofs.Sound.{driver_right}
 use Rattle.custody.specs.Claim.{Call, made, with_pool}
@@ -54,8 +55,10 @@ pub record OfCalls (d : Driver) (p : List ℕ) (P : Call → Called → Type 0) 
       → P c (refusing n e p)
   -- a step that starts nothing, and the two register transfers, whatever the pool is then
   pub rests : (c : Call) (e : Driver) (q : List ℕ) → P c (with_pool (quiet e (actions [])) q)
-  pub reads : (c : Call) (x y : ℕ) (e : Driver) (q : List ℕ) → P c (with_pool (step_of (register_transfer 1 x y e) (actions [])) q)
-  pub writes : (c : Call) (x y : ℕ) (e : Driver) (q : List ℕ) → P c (with_pool (step_of (register_transfer 2 x y e) (actions [])) q)
+  pub reads : (c : Call) (x y : ℕ) (e : Driver) (q : List ℕ)
+      → P c (with_pool (step_of (register_transfer transfer.RegisterRead x y e) (actions [])) q)
+  pub writes : (c : Call) (x y : ℕ) (e : Driver) (q : List ℕ)
+      → P c (with_pool (step_of (register_transfer transfer.RegisterWrite x y e) (actions [])) q)
   pub resets : (c : Call) (e : Driver) (q : List ℕ) → P c (with_pool (quiet e (actions reset_actions)) q)
   -- a completion of a driver value that refusal 12 does not describe
   pub completes : (c : Call) (a : Arrived) (q : List ℕ) → described d ≡ false → P c (with_pool (completed a d) q)

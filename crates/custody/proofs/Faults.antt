@@ -2,7 +2,10 @@
 -- Computed from the definition of the book, in the order of document 01. Assumes nothing.
 use Rattle.std.proofs.Common.{◌≡◌, ℕ, Bool, true, false, not, ◌&&◌, List, [], ◌∷◌, refl}
 use Rattle.rf233.specs.Action.{actions, padded}
-use Rattle.rf233.specs.Transfer.{transfer_of, no_transfer}
+use Rattle.std.specs.Prelude.{Option, None, Some}
+use Rattle.rf233.specs.Transfer.{transfer_of}
+use Rattle.rf233.specs.declared.transfer.TransferKind.{TransferKind}
+use Rattle.rf233.specs.declared.transfer.TransferKind.TheVariants.{RegisterRead, FrameRead, FrameWrite}
 use Rattle.rf233.specs.declared.action.Action.{Action}
 use Rattle.rf233.specs.declared.action.Actions.{Actions}
 use Rattle.rf233.specs.declared.action.Action.TheVariants.{ConfigDone, Sent, Received, Dropped}
@@ -10,7 +13,7 @@ use Rattle.rf233.specs.declared.answer.Answer.{Answer}
 use Rattle.rf233.specs.declared.answer.Answer.TheVariants.{Done, Busy}
 use Rattle.rf233.specs.declared.answer.Reply.{Reply}
 use Rattle.rf233.specs.declared.transfer.Transfer.{Transfer}
-use Rattle.custody.specs.Book.{Page, Fed, new_page, filled, entered}
+use Rattle.custody.specs.Book.{Page, Fed, new_page, filled, begun, entered}
 use Rattle.custody.specs.Book.Fed.{lends_transmit, lends_receive, completes, other}
 
 -- a call as the book is fed it, and its reply
@@ -19,27 +22,30 @@ record Fact : Type 0 where
   reply : Reply
 
 -- a call that is answered so, shows these actions and starts this transfer
-abbrev call : Fed → Answer → Actions → Transfer → Fact
+abbrev call : Fed → Answer → Actions → Option Transfer → Fact
 call f a l t = record { fed = f; reply = record { answer = a; transfer = t; actions = l } }
 
 -- a refused call; one that lends a buffer; one that shows an action; one that starts a transfer; a completion
-abbrev refuses : Actions → Transfer → Fact
+abbrev refuses : Actions → Option Transfer → Fact
 refuses = call other Busy
 
 abbrev sends : ℕ → Fact
-sends b = call (lends_transmit b) Done (actions []) no_transfer
+sends b = call (lends_transmit b) Done (actions []) None
 
 abbrev receives : ℕ → Fact
-receives b = call (lends_receive b) Done (actions []) no_transfer
+receives b = call (lends_receive b) Done (actions []) None
 
 abbrev shows : Action → Fact
-shows a = call other Done (actions (a ∷ [])) no_transfer
+shows a = call other Done (actions (a ∷ [])) None
 
-abbrev starts : ℕ → ℕ → ℕ → Fact
-starts n w r = call other Done (actions []) (transfer_of n w r 0 0 0 0)
+abbrev moves : TransferKind → ℕ → ℕ → Option Transfer
+moves k w r = Some (transfer_of k w r 0 0 0 0)
+
+abbrev starts : TransferKind → ℕ → ℕ → Fact
+starts k w r = call other Done (actions []) (moves k w r)
 
 abbrev ends : Fact
-ends = call completes Done (actions []) no_transfer
+ends = call completes Done (actions []) None
 
 -- the book after these calls
 abbrev after : List Fact → Page → Page
@@ -52,9 +58,9 @@ faulty l x = not (after l new_page).fault && (after (x ∷ []) (after l new_page
 
 pub faults :
     -- a refused call with an action, also where the count leaves it out, or with a transfer
-    (faulty [] (refuses (actions (ConfigDone ∷ [])) no_transfer) ≡ true)
-    × (faulty [] (refuses (padded 0 (ConfigDone ∷ [])) no_transfer) ≡ true)
-    × (faulty [] (refuses (actions []) (transfer_of 1 16 17 0 0 0 0)) ≡ true)
+    (faulty [] (refuses (actions (ConfigDone ∷ [])) None) ≡ true)
+    × (faulty [] (refuses (padded 0 (ConfigDone ∷ [])) None) ≡ true)
+    × (faulty [] (refuses (actions []) (moves RegisterRead 16 17)) ≡ true)
     -- a buffer lent that is not with the client, and one above 18
     × (faulty (sends 3 ∷ []) (receives 3) ≡ true)
     × (faulty [] (sends 16) ≡ true)
@@ -62,8 +68,8 @@ pub faults :
     -- a second buffer in the transmit or the receive place, also while the first is under way
     × (faulty (sends 3 ∷ []) (sends 4) ≡ true)
     × (faulty (receives 3 ∷ []) (receives 4) ≡ true)
-    × (faulty (receives 3 ∷ starts 3 18 3 ∷ []) (receives 4) ≡ true)
-    × (faulty (sends 3 ∷ starts 4 3 18 ∷ []) (sends 4) ≡ true)
+    × (faulty (receives 3 ∷ starts FrameRead 18 3 ∷ []) (receives 4) ≡ true)
+    × (faulty (sends 3 ∷ starts FrameWrite 3 18 ∷ []) (sends 4) ≡ true)
     -- a completion with no transfer under way
     × (faulty [] ends ≡ true)
     -- a notice or a drop whose buffer is not in its place
@@ -71,18 +77,18 @@ pub faults :
     × (faulty (receives 3 ∷ []) (shows (Dropped 3)) ≡ true)
     × (faulty (sends 3 ∷ []) (shows (Received 3 10 true)) ≡ true)
     -- a transfer while another is under way
-    × (faulty (receives 3 ∷ starts 1 16 17 ∷ []) (starts 3 18 3) ≡ true)
+    × (faulty (receives 3 ∷ starts RegisterRead 16 17 ∷ []) (starts FrameRead 18 3) ≡ true)
     -- one of a kind that there is not, ones that name the wrong own buffers, one whose client's buffer is not in its place
-    × (faulty [] (starts 5 16 17) ≡ true)
-    × (faulty [] (starts 1 17 16) ≡ true)
-    × (faulty (receives 3 ∷ []) (starts 3 16 3) ≡ true)
-    × (faulty (sends 3 ∷ []) (starts 4 3 17) ≡ true)
-    × (faulty (sends 3 ∷ []) (starts 3 18 3) ≡ true)
+    × (not new_page.fault && (begun 5 16 17 new_page).fault ≡ true)
+    × (faulty [] (starts RegisterRead 17 16) ≡ true)
+    × (faulty (receives 3 ∷ []) (starts FrameRead 16 3) ≡ true)
+    × (faulty (sends 3 ∷ []) (starts FrameWrite 3 17) ≡ true)
+    × (faulty (sends 3 ∷ []) (starts FrameRead 18 3) ≡ true)
 unfolding entered filled
 faults = (refl, refl, refl, refl, refl, refl, refl, refl, refl, refl, refl, refl, refl, refl, refl, refl, refl, refl, refl, refl)
 
 -- a start and its completion; buffers lent to both places, one of them under way
-pub faultless : (after (starts 1 16 17 ∷ ends ∷ []) new_page ≡ new_page)
-    × ((after (sends 3 ∷ starts 4 3 18 ∷ receives 4 ∷ ends ∷ []) new_page).fault ≡ false)
+pub faultless : (after (starts RegisterRead 16 17 ∷ ends ∷ []) new_page ≡ new_page)
+    × ((after (sends 3 ∷ starts FrameWrite 3 18 ∷ receives 4 ∷ ends ∷ []) new_page).fault ≡ false)
 unfolding entered filled
 faultless = (refl, refl)

@@ -8,6 +8,7 @@ pub mod Events
 pub mod Calls
 pub mod CustodyClaim
 pub mod BookCounts
+pub mod BookLists
 pub mod Faults
 pub mod EveryCall
 pub mod Refusal

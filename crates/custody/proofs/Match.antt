@@ -11,7 +11,9 @@ use Rattle.custody.proofs.BookLaws.{two_moved, comes, goes, filled_none, as_kind
 use Rattle.custody.specs.Book.{Page, new_page, missing, write_from, read_from, room, full, brought, ended, given, names_own, taken}
 use Rattle.custody.specs.Book.{acts, turned_down}
 use Rattle.custody.specs.Claim.{only, held_below, kind_of, under_kind, under_write, under_read}
-use Rattle.rf233.specs.Record.{is_held, one, slot_has, under_has, count_of, record_has, tx_under_way, rx_under_way}
+use Rattle.std.specs.Prelude.{Option, None, Some, is_some}
+use Rattle.rf233.specs.Transfer.{kind_no}
+use Rattle.rf233.specs.Record.{one, slot_has, under_has, count_of, record_has, tx_under_way, rx_under_way}
 use Rattle.rf233.specs.Choice.{one_of}
 use Rattle.rf233.specs.Completion.{buffers_back}
 use Rattle.rf233.specs.Case.{without_tx, without_rx}
@@ -22,8 +24,7 @@ use Rattle.rf233.specs.Transfer.{under_way, free_to_start, to_complete}
 use Rattle.rf233.specs.Driver.{with_tx, with_rx, with_tx_len}
 use Rattle.rf233.specs.declared.answer.Reply.{Reply}
 use Rattle.rf233.specs.declared.driver.Buffers.{Buffers}
-use Rattle.rf233.specs.declared.driver.Slot.{Slot}
-use Rattle.rf233.specs.declared.driver.Slot.TheVariants.{Empty, Held}
+use Rattle.rf233.specs.declared.driver.Lent.{Lent}
 use Rattle.rf233.specs.declared.driver.Under.{Under}
 use Rattle.rf233.specs.declared.driver.Under.TheVariants.{Idle, Register, FrameRead, FrameWrite}
 use Rattle.rf233.specs.Place.{client_place, own_place, transmit_place, receive_place, transfer_place, places_of}
@@ -43,14 +44,14 @@ abbrev own_place_in : Under → ℕ → Bool
 own_place_in u b = (not (eqb (under_kind u) 1) && eqb 16 b) || ((not (eqb (under_kind u) 1) && eqb 17 b) || (no_frame u && eqb 18 b))
 
 -- with t and x in the client's places and u under way: at how many places buffer b is, and the sum of the places' numbers
-abbrev count : Slot → Slot → Under → ℕ → ℕ
+abbrev count : Option Lent → Option Lent → Under → ℕ → ℕ
 count t x u b = count_by (own_place_in u b) (slot_has t b) (slot_has x b) (under_has u b)
 
-abbrev spots : Slot → Slot → Under → ℕ → ℕ
+abbrev spots : Option Lent → Option Lent → Under → ℕ → ℕ
 spots t x u b = sum_by (own_place_in u b) (slot_has t b) (slot_has x b) (under_has u b)
 
 -- a client's place has a buffer that is not a client's
-abbrev high : Slot → Slot → Under → Bool
+abbrev high : Option Lent → Option Lent → Under → Bool
 high t x u = slot_above t || (slot_above x || slot_above (under_slot u))
 
 -- the transfer under way is the one that the book has
@@ -60,7 +61,7 @@ pub record Going (u : Under) (n w r : ℕ) : Type 0 where
   pub read : r ≡ under_read u
 
 -- a record agrees with the book: by the own buffers' places, the client's places and the transfer under way
-pub record Matched (a b c : Bool) (t x : Slot) (u : Under) (k : Page) : Type 0 where
+pub record Matched (a b c : Bool) (t x : Option Lent) (u : Under) (k : Page) : Type 0 where
   pub faultless : k.fault ≡ false
   pub booked : Booked (count t x u) (spots t x u) k.places k.accepted k.handed k.dropped
   pub going : Going u k.kind k.write k.read
@@ -76,18 +77,18 @@ Match r k = MatchWith r.under r k
 
 -- a buffer that the book has at a place is not missing there
 there : (k : Page) (c q : ℕ) → c < 19 → get_or k.places c client_place ≡ q → missing c q k.places ≡ false
-there k c q i e = rw (le-ltb 18 c (omega arith), e, same q)
+there k c q i e = grind arith
 
 -- ---- a transfer's two buffers
 
 -- the client's places: t and x while transfer u has not taken its buffers, t' and x' while it has them
-data Takes : Under → Slot → Slot → Slot → Slot → Type 0 where
-  register : {t x : Slot} → Takes Register t x t x
-  reading : {t : Slot} {c l : ℕ} → Takes (FrameRead c l) t (Held c l) t Empty
-  writing : {x : Slot} {c l : ℕ} → Takes (FrameWrite c l) (Held c l) x Empty x
+data Takes : Under → Option Lent → Option Lent → Option Lent → Option Lent → Type 0 where
+  register : {t x : Option Lent} → Takes Register t x t x
+  reading : {t : Option Lent} {y : Lent} → Takes (FrameRead y) t (Some y) t None
+  writing : {x : Option Lent} {y : Lent} → Takes (FrameWrite y) (Some y) x None x
 
 -- the two compared, by the kind of transfer: its beginning and its end both go by this
-record Differ (u : Under) (t x t' x' : Slot) : Type 0 where
+record Differ (u : Under) (t x t' x' : Option Lent) : Type 0 where
   lows : (under_write u < 19) × (under_read u < 19)
   apart : eqb (under_write u) (under_read u) ≡ false
   has : (under_has u (under_write u) ≡ true) × (under_has u (under_read u) ≡ true)
@@ -96,7 +97,7 @@ record Differ (u : Under) (t x t' x' : Slot) : Type 0 where
   moves : (b : ℕ) → spots t' x' u b + both (under_write u) (write_from (under_kind u)) (under_read u) (read_from (under_kind u)) b
       ≡ spots t x Idle b + both (under_write u) transfer_place (under_read u) transfer_place b
 
-differ : {u : Under} {t x t' x' : Slot} → Takes u t x t' x' → high t' x' u ≡ false → Differ u t x t' x'
+differ : {u : Under} {t x t' x' : Option Lent} → Takes u t x t' x' → high t' x' u ≡ false → Differ u t x t' x'
 differ register e =
     record {
       lows = omega arith;
@@ -106,7 +107,8 @@ differ register e =
       counts = λ b. omega (arith, of_three b, of_two 16 17 b refl);
       moves = λ b. omega (arith, of_three b, of_two 16 17 b refl);
     }
-differ (reading {t} {c}) e =
+differ (reading {t} {y}) e =
+    let c = y.buffer in
     let h = low c (none_right (slot_above t) (ltb 15 c) e) in
     let d = ne_eqb 18 c (λ z. omega arith) in
     record {
@@ -117,7 +119,8 @@ differ (reading {t} {c}) e =
       counts = λ b. omega (arith, of_three b, of_first b, of_two 18 c b d);
       moves = λ b. omega (arith, of_three b, of_first b, of_two 18 c b d);
     }
-differ (writing {x} {c}) e =
+differ (writing {x} {y}) e =
+    let c = y.buffer in
     let h = low c (none_right (slot_above x) (ltb 15 c) e) in
     let d = ne_eqb 18 c (λ z. omega arith) in
     record {
@@ -129,16 +132,16 @@ differ (writing {x} {c}) e =
       moves = λ b. omega (arith, of_three b, of_first b, of_two 18 c b d);
     }
 
-high_same : {u : Under} {t x t' x' : Slot} → Takes u t x t' x' → high t' x' u ≡ high t x Idle
+high_same : {u : Under} {t x t' x' : Option Lent} → Takes u t x t' x' → high t' x' u ≡ high t x Idle
 high_same register = refl
 high_same reading = rw or-false
-high_same (writing {x} {c} {l}) = sym (or_left_comm (ltb 15 c) (slot_above x) false ∙ rw or-false)
+high_same (writing {x} {y}) = sym (or_left_comm (ltb 15 y.buffer) (slot_above x) false ∙ rw or-false)
 
 -- what the transfer under way has, the book has with it
-with_it : (t x : Slot) (u : Under) (b : ℕ) → under_has u b ≡ true → count t x u b ≤ 1 → spots t x u b ≡ 4
-with_it t x u b e h = let y = rw e at h in rw e (omega arith)
+with_it : (t x : Option Lent) (u : Under) (b : ℕ) → under_has u b ≡ true → count t x u b ≤ 1 → spots t x u b ≡ 4
+with_it t x u b e h = grind arith
 
-module _ {a b c a' b' c' : Bool} {u : Under} {t x t' x' : Slot} {k : Page} (s : Takes u t x t' x') where
+module _ {a b c a' b' c' : Bool} {u : Under} {t x t' x' : Option Lent} {k : Page} (s : Takes u t x t' x') where
   -- it begins where none is under way
   begins_at : Matched a b c t x Idle k → Own a' b' c' u → (n : ℕ) → kind_of n ≡ under_kind u
       → Matched a' b' c' t' x' u (taken n (under_write u) (under_read u) k)
@@ -205,23 +208,23 @@ module _ {a b c a' b' c' : Bool} {u : Under} {t x t' x' : Slot} {k : Page} (s : 
 abbrev pub Ready : Under → Buffers → Type 0
 Ready Idle r = ⊥
 Ready Register r = Unit
-Ready (FrameRead c l) r = r.rx_buf ≡ Held c l
-Ready (FrameWrite c l) r = r.tx_buf ≡ Held c l
+Ready (FrameRead x) r = r.rx_buf ≡ Some x
+Ready (FrameWrite x) r = r.tx_buf ≡ Some x
 
 -- ---- a client's buffer
 
 -- the client's places: t and x without client's buffer c, t' and x' with it at place p
-record Lent (c p : ℕ) (u : Under) (t x t' x' : Slot) : Type 0 where
+record Lending (c p : ℕ) (u : Under) (t x t' x' : Option Lent) : Type 0 where
   more : More c p (count t x u) (spots t x u) (count t' x' u) (spots t' x' u)
   highs : high t' x' u ≡ ltb 15 c || high t x u
 
-lent_tx : {u : Under} {x : Slot} (c l : ℕ) → Lent c transmit_place u Empty x (Held c l) x
-lent_tx c l = record { more = omega arith; highs = refl }
+lent_tx : {u : Under} {x : Option Lent} (y : Lent) → Lending y.buffer transmit_place u None x (Some y) x
+lent_tx y = record { more = omega arith; highs = refl }
 
-lent_rx : {u : Under} {t : Slot} (c l : ℕ) → Lent c receive_place u t Empty t (Held c l)
-lent_rx {t} c l = record { more = omega arith; highs = or_left_comm (slot_above t) (ltb 15 c) _ }
+lent_rx : {u : Under} {t : Option Lent} (y : Lent) → Lending y.buffer receive_place u t None t (Some y)
+lent_rx {t} y = record { more = omega arith; highs = or_left_comm (slot_above t) (ltb 15 y.buffer) _ }
 
-module _ {a b d : Bool} {c p : ℕ} {u : Under} {t x t' x' : Slot} {k : Page} (v : Lent c p u t x t' x') where
+module _ {a b d : Bool} {c p : ℕ} {u : Under} {t x t' x' : Option Lent} {k : Page} (v : Lending c p u t x t' x') where
   -- it comes, from the client
   lends_at : Matched a b d t x u k → c < 16 → count t x u c ≡ 0 → full p k ≡ false → Matched a b d t' x' u (brought c p k)
   lends_at m h e f =
@@ -249,22 +252,16 @@ module _ {a b d : Bool} {c p : ℕ} {u : Under} {t x t' x' : Slot} {k : Page} (v
       }
 
 -- whether a transfer took a buffer from the transmit or the receive place
-took : (u : Under) → (eqb (write_from (under_kind u)) 2 || eqb (read_from (under_kind u)) 2 ≡ is_held (tx_under_way u))
-    × (eqb (write_from (under_kind u)) 3 || eqb (read_from (under_kind u)) 3 ≡ is_held (rx_under_way u))
-took Idle = (refl, refl)
-took Register = (refl, refl)
-took (FrameRead c l) = (refl, refl)
-took (FrameWrite c l) = (refl, refl)
+took : (u : Under) → (eqb (write_from (under_kind u)) 2 || eqb (read_from (under_kind u)) 2 ≡ is_some (tx_under_way u))
+    × (eqb (write_from (under_kind u)) 3 || eqb (read_from (under_kind u)) 3 ≡ is_some (rx_under_way u))
+took u = grind arith
 
 -- an own buffer is in its place or under way
 abbrev own_or : Under → ℕ → ℕ
 own_or u b = one (own_place_in u b) + one (under_has u b)
 
 own_in : (u : Under) → (1 ≤ own_or u 16) × (1 ≤ own_or u 17) × (1 ≤ own_or u 18)
-own_in Idle = omega arith
-own_in Register = omega arith
-own_in (FrameRead c l) = omega arith
-own_in (FrameWrite c l) = omega arith
+own_in u = grind arith
 
 -- 16, 17 and 18 are the numbers from 16 on that are below 19
 from_three : (P : ℕ → Type 0) → P 16 → P 17 → P 18 → (b : ℕ) → 16 ≤ b → b < 19 → P b
@@ -285,22 +282,22 @@ module _ (r : Buffers) (k : Page) (m : Match r k) where
           → Match (buffers_away u r) (taken n (under_write u) (under_read u) k)
       go Idle y e m = absurd y
       go Register y e m = begins_at register m (record { tx = refl; rx = refl; buf = m.own.buf }) n e
-      go (FrameRead c l) y e m = begins_at (rw y reading) m (record { tx = m.own.tx; rx = m.own.rx; buf = refl }) n e
-      go (FrameWrite c l) y e m = begins_at (rw y writing) m (record { tx = m.own.tx; rx = m.own.rx; buf = refl }) n e
+      go (FrameRead x) y e m = begins_at (rw y reading) m (record { tx = m.own.tx; rx = m.own.rx; buf = refl }) n e
+      go (FrameWrite x) y e m = begins_at (rw y writing) m (record { tx = m.own.tx; rx = m.own.rx; buf = refl }) n e
 
   -- the transfer ends; the place that a frame transfer's buffer came from is empty
   pub ends : to_complete r ≡ true → held_besides r ≡ false → Match (buffers_back r.under r) (ended k)
   ends i h = go r.under i h m
     where
       go : (u : Under) → under_way u ≡ true
-          → (is_held r.tx_buf && is_held (tx_under_way u)) || (is_held r.rx_buf && is_held (rx_under_way u)) ≡ false
+          → (is_some r.tx_buf && is_some (tx_under_way u)) || (is_some r.rx_buf && is_some (rx_under_way u)) ≡ false
           → MatchWith u r k → Match (buffers_back u r) (ended k)
       go Idle i h m = let z : ◌≡◌ {A = ℕ} 0 1 = cc in absurd (omega arith)
       go Register i h m = ends_at register m (record { tx = refl; rx = refl; buf = m.own.buf })
-      go (FrameRead c l) i h m =
+      go (FrameRead x) i h m =
           ends_at (rw (empty_is r.rx_buf (rw (and-false, and-true) at h)) reading) m
           (record { tx = m.own.tx; rx = m.own.rx; buf = refl })
-      go (FrameWrite c l) i h m =
+      go (FrameWrite x) i h m =
           ends_at (rw (empty_is r.tx_buf (rw (and-true, and-false, or-false) at h)) writing) m
           (record { tx = m.own.tx; rx = m.own.rx; buf = refl })
 
@@ -357,12 +354,12 @@ module _ (r : Buffers) (k : Page) (m : Match r k) where
   somewhere = let o = own_in r.under in rw (own_has_lem 16 o.0, own_has_lem 17 o.1, own_has_lem 18 o.2)
 
   -- the buffer in the transmit place goes back to its client, handed or dropped
-  pub gives_tx : (c l i j : ℕ) → r.tx_buf ≡ Held c l → i + j ≡ 1 → Match (without_tx r) (given c transmit_place i j k)
-  gives_tx c l i j e s = gives_at (lent_tx c l) (rw e at m) i j s
+  pub gives_tx : (x : Lent) (i j : ℕ) → r.tx_buf ≡ Some x → i + j ≡ 1 → Match (without_tx r) (given x.buffer transmit_place i j k)
+  gives_tx x i j e s = gives_at (lent_tx x) (rw e at m) i j s
 
   -- the buffer in the receive place goes back to its client
-  pub gives_rx : (c l : ℕ) → r.rx_buf ≡ Held c l → Match (without_rx r) (given c receive_place 1 0 k)
-  gives_rx c l e = gives_at (lent_rx c l) (rw e at m) 1 0 refl
+  pub gives_rx : (x : Lent) → r.rx_buf ≡ Some x → Match (without_rx r) (given x.buffer receive_place 1 0 k)
+  gives_rx x e = gives_at (lent_rx x) (rw e at m) 1 0 refl
 
   -- there is room at a place that is empty, and that no transfer under way took a buffer from
   has_room : (p : ℕ) → leb (room p) 0 ≡ false → ((b : ℕ) → b < 19 → one (eqb (get_or k.places b client_place) p) ≡ 0)
@@ -376,27 +373,29 @@ module _ (r : Buffers) (k : Page) (m : Match r k) where
       ) s
 
   -- a client's buffer is lent for sending, or for receiving
-  pub lends_tx : (b l n : ℕ) → b < 16 → is_held r.tx_buf ≡ false → is_held (tx_under_way r.under) ≡ false → record_has r b ≡ false
-      → Match (with_tx_len n (with_tx (Held b l) r)) (brought b transmit_place k)
-  lends_tx b l n h e u f =
+  pub lends_tx : (x : Lent) (n : ℕ) → x.buffer < 16 → is_some r.tx_buf ≡ false → is_some (tx_under_way r.under) ≡ false
+      → record_has r x.buffer ≡ false
+      → Match (with_tx_len n (with_tx (Some x) r)) (brought x.buffer transmit_place k)
+  lends_tx x n h e u f =
       let t = empty_is r.tx_buf e in
-      lends_at (lent_tx b l) (rw t at m) h (rw t at (free b f))
+      lends_at (lent_tx x) (rw t at m) h (rw t at (free x.buffer f))
       (has_room transmit_place refl (λ b i. rw t at (fitted b i).1) ((took r.under).0 ∙ u))
 
-  pub lends_rx : (b l : ℕ) → b < 16 → is_held r.rx_buf ≡ false → is_held (rx_under_way r.under) ≡ false → record_has r b ≡ false
-      → Match (with_rx (Held b l) r) (brought b receive_place k)
-  lends_rx b l h e u f =
+  pub lends_rx : (x : Lent) → x.buffer < 16 → is_some r.rx_buf ≡ false → is_some (rx_under_way r.under) ≡ false
+      → record_has r x.buffer ≡ false
+      → Match (with_rx (Some x) r) (brought x.buffer receive_place k)
+  lends_rx x h e u f =
       let t = empty_is r.rx_buf e in
-      lends_at (lent_rx b l) (rw t at m) h (rw t at (free b f))
+      lends_at (lent_rx x) (rw t at m) h (rw t at (free x.buffer f))
       (has_room receive_place refl (λ b i. rw t at (fitted b i).2) ((took r.under).1 ∙ u))
 
   -- what a refusal leaves
-  pub refuses : (y : Reply) → acts y.actions.items ≡ false → y.transfer.kind ≡ 0 → Match r (turned_down y k)
+  pub refuses : (y : Reply) → acts y.actions.items ≡ false → kind_no y.transfer ≡ 0 → Match r (turned_down y k)
   refuses y e f = rw (e, f, or-false) m
 
 -- a new driver and a new book agree: each buffer is tried
 abbrev newly : ℕ → Bool
-newly n = leb (count Empty Empty Idle n) 1 && eqb (get_or new_page.places n client_place) (spots Empty Empty Idle n)
+newly n = leb (count None None Idle n) 1 && eqb (get_or new_page.places n client_place) (spots None None Idle n)
 
 pub match_new : (l c : ℕ) → Match (new_driver l c).buffers new_page
 unfolding sum
@@ -407,7 +406,7 @@ match_new l c =
           record {
             sized = refl;
             placed = λ n h.
-                let v = leb (count Empty Empty Idle n) 1 in
+                let v = leb (count None None Idle n) 1 in
                 let t = below_at newly 19 tt n h in
                 (leb→le _ 1 (left v _ t), eqb→eq _ _ (right v _ t));
             counted = refl;

@@ -1,5 +1,6 @@
 -- Each step in which a completion ends, and a firing, keeps the invariant of Custody.antt where a transfer may begin: `ends`, for the one
 -- walk through the phases (`completion_by` of rf233). From the row test of Fit.antt and the moves of Match.antt. Assumes nothing.
+use Rattle.std.proofs.Common.{arith}
 use Rattle.std.proofs.Common.{◌≡◌, ℕ, true, false, not, ◌&&◌, T, eqb, leb, [], length, sym, refl, ap, ◌∙◌, subst, le_trans, leb→le}
 use Rattle.rf233.specs.Action.{actions}
 use Rattle.rf233.specs.Case.{perform, accessed, case_of, own_case, shown, handed, entering, trees, tree_at}
@@ -9,13 +10,14 @@ use Rattle.rf233.specs.Driver.{assigning, flagged, with_buffers, with_state}
 use Rattle.rf233.specs.Driver.Flag.{interrupt_handling}
 use Rattle.rf233.specs.Interrupt.{handle_interrupt, interrupt_state}
 use Rattle.rf233.specs.Rows.{Next, Row, holds, eval}
-use Rattle.rf233.specs.Rows.Next.{same, to}
 use Rattle.rf233.specs.Rows.Row.{does}
 use Rattle.rf233.specs.Rows.Test.{length_fits}
 use Rattle.rf233.specs.Starter.{register_transfer}
 use Rattle.rf233.specs.State.{state_no}
 use Rattle.rf233.specs.Step.{step_of}
-use Rattle.rf233.specs.Transfer.{free_to_start}
+use Rattle.rf233.specs.Transfer.{kind_value, free_to_start}
+use Rattle.rf233.specs.declared.transfer.TransferKind.{TransferKind}
+use Rattle.rf233.specs.declared.transfer.TransferKind.TheVariants as transfer
 use Rattle.rf233.specs.declared.action.Actions.{Actions}
 use Rattle.rf233.specs.declared.answer.Outcome.{Outcome}
 use Rattle.rf233.specs.declared.arrived.Arrived.{Arrived}
@@ -38,7 +40,7 @@ use Rattle.rf233.proofs.Facts.Kind.{access}
 use Rattle.rf233.proofs.Fit.{fit, ok_shown, ok_access, ok_row, row_fits, to_46, to_60, to_handling, to_62, to_33, to_29, to_59, to_28}
 use Rattle.rf233.proofs.Fit.{to_42}
 use Rattle.rf233.proofs.Trees.{row_of}
-use Rattle.custody.proofs.Actions.{notes, noted_padded, fewer, hands}
+use Rattle.custody.proofs.Actions.{noted_padded, fewer, hands}
 use Rattle.custody.proofs.BookLaws.{idle_is}
 use Rattle.custody.proofs.Custody.{
   Inv,
@@ -61,8 +63,7 @@ length_known a d = refl
 
 -- the state that a row enters leaves the record
 entering_record : (m : Next) (d : Driver) → (entering m d).buffers ≡ d.buffers
-entering_record same d = refl
-entering_record (to s) d = refl
+entering_record m d = grind arith
 
 -- the invariant, where a transfer may begin
 pub record Rest (k : Page) (d : Driver) : Type 0 where
@@ -87,7 +88,8 @@ module _ (k : Page) where
       }
 
   -- a register transfer is asked for
-  pub asks : (d e : Driver) → Rest k d → e.buffers ≡ d.buffers → (n x y : ℕ) → kind_of n ≡ 1 → eqb n 0 ≡ false
+  pub asks : (d e : Driver) → Rest k d → e.buffers ≡ d.buffers → (n : TransferKind) (x y : ℕ) → kind_of (kind_value n) ≡ 1
+      → eqb (kind_value n) 0 ≡ false
       → T (fit (under access (of e)))
       → After k (step_of (register_transfer n x y e) (actions []))
   asks d e v q =
@@ -112,7 +114,7 @@ module _ (k : Page) where
       hands a e sh e.buffers k (record { tx_of = λ y. refl; rx_of = λ y. refl }) there
       (subst (λ b. Match b k) (sym q) v.inv.match) in
       let kept =
-      access_keeps (notes (shown a e sh) k) c given (handed_lengths sh e.buffers (subst Lengths (sym q) v.inv.lengths))
+      access_keeps (noted_all (shown a e sh) k) c given (handed_lengths sh e.buffers (subst Lengths (sym q) v.inv.lengths))
       (handed_free sh e.buffers (ap free_to_start q ∙ v.free)) y a x
       (subst (λ z. T (ok_access x (within 11 127 a.result) z)) (sym (prepared_is a.result l m sh d))
       (right (leb (length sh) 6 && p) _ o)) in
@@ -134,8 +136,9 @@ module _ (k : Page) where
       let o = v.inv.fitted in
       branch (After k) _ _ _
       (λ y. branch (After k) _ _ _
-      (λ z. asks d (with_state RX_TURNING_OFF d) v refl 2 _ _ refl refl (to_60.gives (of d) o (rests d v) tt))
-      (λ z. asks d (flagged interrupt_handling true d) v refl 1 _ _ refl refl (to_handling.gives (of d) o (rests d v) tt)))
+      (λ z. asks d (with_state RX_TURNING_OFF d) v refl transfer.RegisterWrite _ _ refl refl (to_60.gives (of d) o (rests d v) tt))
+      (λ z. asks d (flagged interrupt_handling true d) v refl transfer.RegisterRead _ _ refl refl
+      (to_handling.gives (of d) o (rests d v) tt)))
       (λ y. absurd (subst (λ t. T (not t)) v.free y))
 
   -- a waiting commit: the first write begins, and the state is 46
@@ -144,7 +147,7 @@ module _ (k : Page) where
   commits a d v =
       let e = with_state CONFIG_SHORT0_SET d in
       subst (λ s. After k (falls_on (step_of s (actions [])) (own_case a s.driver)))
-      (sym (register_begins k e v.inv.match v.inv.lengths v.free 2 _ _))
+      (sym (register_begins k e v.inv.match v.inv.lengths v.free transfer.RegisterWrite _ _))
       (record {
         match = begins d.buffers k v.inv.match Register 2 tt refl v.free;
         fitted = to_46.gives (of d) v.inv.fitted (rests d v) tt;
@@ -157,8 +160,10 @@ module _ (k : Page) where
       record {
         fires = fires;
         sends = λ d v s.
-            asks d (with_state TX_STATUS_PRECHECK1 d) v refl 1 _ _ refl refl (to_33.gives (of d) v.inv.fitted (rests d v) s);
-        waits = λ d v. asks d (with_state READY d) v refl 1 _ _ refl refl (to_29.gives (of d) v.inv.fitted (rests d v) tt);
+            asks d (with_state TX_STATUS_PRECHECK1 d) v refl transfer.RegisterRead _ _ refl refl
+            (to_33.gives (of d) v.inv.fitted (rests d v) s);
+        waits = λ d v.
+            asks d (with_state READY d) v refl transfer.RegisterRead _ _ refl refl (to_29.gives (of d) v.inv.fitted (rests d v) tt);
         commits = commits;
         case = own_keeps;
       }

@@ -2,6 +2,7 @@
 -- pass a test, which is asked of the row alone, and so does each of the notices, every action of the row does (`all_pass`).
 -- Assumes nothing.
 use Rattle.std.proofs.Common.{Bool, true, ◌&&◌, T, List, [], ◌∷◌}
+use Rattle.std.specs.List.{list_all}
 use Rattle.laws.proofs.Logic.{left, right, pair}
 use Rattle.rf233.specs.Case.{shown}
 use Rattle.rf233.specs.Receive.{received}
@@ -17,8 +18,7 @@ use Rattle.rf233.proofs.ChoiceLaws.{either}
 
 -- each of the actions passes the test
 abbrev pub passes : (Action → Bool) → List Action → Bool
-passes f [] = true
-passes f (x ∷ l) = f x && passes f l
+passes = list_all
 
 -- those that a row names outright do
 abbrev pub plainly : (Action → Bool) → List Shown → Bool

@@ -1,16 +1,13 @@
 -- Refusal 12 describes no driver that meets the invariant of Custody.antt: from a new driver it is given only for the pool's length.
 -- Assumes nothing.
-use Rattle.std.proofs.Common.{◌≡◌, Bool, false, not, ◌&&◌, ◌||◌, T, eqb, ltb}
-use mathlib.Core.Bool.{and-false}
+use Rattle.std.proofs.Common.{arith}
+use Rattle.std.proofs.Common.{◌≡◌, false, not, ◌&&◌, T, eqb, ltb}
 use Rattle.custody.specs.Book.{Page}
-use Rattle.rf233.specs.Record.{is_held}
-use Rattle.rf233.specs.Record as rec
+use Rattle.std.specs.Prelude.{is_some}
 use Rattle.rf233.specs.Described.{length_bad, held_besides, described, buffer_missing}
 use Rattle.rf233.specs.State.{state_no, state_frame}
 use Rattle.rf233.specs.declared.driver.Buffers.{Buffers}
 use Rattle.rf233.specs.declared.driver.Driver.{Driver}
-use Rattle.rf233.specs.declared.driver.Under.{Under}
-use Rattle.rf233.specs.declared.driver.Under.TheVariants.{Idle, Register, FrameRead, FrameWrite}
 use Rattle.laws.proofs.Logic.{left, right, is_true, is_false}
 use Rattle.custody.proofs.Custody.{Inv, Lengths}
 use Rattle.rf233.proofs.Facts.{kind, frame_of, frame_no_lem, of}
@@ -20,16 +17,11 @@ use Rattle.custody.proofs.Match.{once, somewhere}
 -- no buffer is held beside another of its kind under way
 pub besides_none : (d : Driver) → T (fit (of d)) → held_besides d.buffers ≡ false
 besides_none d o =
-    let t = is_held d.buffers.tx_buf in
-    let r = is_held d.buffers.rx_buf in
-    go d.buffers.under t r (λ z. is_false t (tx_empty.gives (of d) o tt z)) (λ z. is_false r (rx_empty.gives (of d) o tt z))
-  where
-    go : (u : Under) (t r : Bool) → (T (eqb (frame_of (kind u)) 2) → t ≡ false) → (T (eqb (frame_of (kind u)) 1) → r ≡ false)
-        → (t && is_held (rec.tx_under_way u)) || (r && is_held (rec.rx_under_way u)) ≡ false
-    go Idle t r x y = rw (and-false t, and-false r)
-    go Register t r x y = rw (and-false t, and-false r)
-    go (FrameRead c l) t r x y = rw (and-false t, y tt)
-    go (FrameWrite c l) t r x y = rw (and-false r, x tt)
+    let t = is_some d.buffers.tx_buf in
+    let r = is_some d.buffers.rx_buf in
+    let x = tx_empty.gives (of d) o tt in
+    let y = rx_empty.gives (of d) o tt in
+    grind arith
 
 lengths_good : (b : Buffers) → Lengths b → length_bad b ≡ false
 lengths_good b g = rw (g.whole, g.present, g.tx, g.tx_under, g.rx, g.rx_under)

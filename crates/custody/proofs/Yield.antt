@@ -1,15 +1,16 @@
 -- `six_actions`: a call's reply has at most one transfer, of one of the four kinds, and at most six actions, counted. For completions from
 -- one test, computed over the rows of all states (`rows_six`); for the calls by `every_call`. Assumes nothing.
-use Rattle.std.proofs.Common.{◌≡◌, ℕ, zero, suc, ◌+◌, ◌<◌, ◌≤◌, Bool, true, ◌&&◌, T, leb, List, [], ◌∷◌, ◌++◌, map, length, get_or, take}
-use Rattle.std.proofs.Common.{replicate, refl, ap, arith, leb-true}
+use Rattle.std.proofs.Common.{◌≡◌, ℕ, zero, suc, ◌<◌, ◌≤◌, Bool, true, ◌&&◌, T, leb, List, [], ◌∷◌, ◌++◌, length, get_or, take}
+use Rattle.std.proofs.Common.{replicate, refl, arith, leb-true}
+use Rattle.std.proofs.lemmas.List.{length-take-le, length-append, length-replicate}
 use Rattle.laws.proofs.Logic.{left, right, is_true, all_below}
-use Rattle.rf233.specs.Action.{item, actions}
+use Rattle.std.specs.Prelude.{Option, None, Some}
+use Rattle.rf233.specs.Action.{actions}
 use Rattle.rf233.specs.Answer.{answer_of}
 use Rattle.rf233.specs.Case.{perform, case_of, own_case, shown, accessed, entering, trees, tree_at}
 use Rattle.rf233.specs.Completion.{falls_on, completed}
 use Rattle.rf233.specs.Driver.{assigning}
 use Rattle.rf233.specs.Interrupt.{handle_interrupt}
-use Rattle.rf233.specs.Record.{one}
 use Rattle.rf233.specs.Rows.{Access, Row}
 use Rattle.rf233.specs.Rows.Access.{none, reads, writes, reads_length, reads_frame, writes_frame}
 use Rattle.rf233.specs.Rows.Row.{does}
@@ -17,14 +18,15 @@ use Rattle.rf233.specs.Starter.{register_transfer, frame_read_into, frame_write_
 use Rattle.rf233.specs.Step.{step_of}
 use Rattle.rf233.specs.declared.action.Action.{Action}
 use Rattle.rf233.specs.declared.action.Action.TheVariants.{Nothing}
-use Rattle.rf233.specs.Transfer.{no_transfer}
+use Rattle.rf233.specs.Transfer.{kind_no, kind_value}
+use Rattle.rf233.specs.declared.transfer.TransferKind.{TransferKind}
+use Rattle.rf233.specs.declared.transfer.TransferKind.TheVariants as transfer
 use Rattle.rf233.specs.declared.answer.Answer.{Answer}
 use Rattle.rf233.specs.declared.answer.Answer.TheVariants.{Done}
 use Rattle.rf233.specs.declared.answer.Outcome.{Outcome}
 use Rattle.rf233.specs.declared.arrived.Arrived.{Arrived}
 use Rattle.rf233.specs.declared.driver.Driver.{Driver}
-use Rattle.rf233.specs.declared.driver.Slot.{Slot}
-use Rattle.rf233.specs.declared.driver.Slot.TheVariants.{Empty, Held}
+use Rattle.rf233.specs.declared.driver.Lent.{Lent}
 use Rattle.rf233.specs.declared.starter.Started.{Started}
 use Rattle.rf233.specs.declared.transfer.Transfer.{Transfer}
 use Rattle.rf233.proofs.ChoiceLaws.{either}
@@ -42,16 +44,10 @@ use Rattle.custody.proofs.Shown.{passes, plainly, Notices, all_pass}
 abbrev held : ℕ → ℕ → List Action → List Action
 held n m l = take n (l ++ replicate m Nothing)
 
-in_places : (n : ℕ) (l : List Action) → length (map item (held n n l)) ≡ n
-in_places n l = go n n l (omega arith)
-  where
-    go : (n m : ℕ) (l : List Action) → n ≤ m → length (map item (held n m l)) ≡ n
-    go zero m l h = refl
-    go (suc n) zero l h = absurd (omega arith)
-    go (suc n) (suc m) [] h = ap suc (go n m [] (omega arith))
-    go (suc n) (suc m) (x ∷ l) h = ap suc (go n (suc m) l (omega arith))
+in_places : (n : ℕ) (l : List Action) → length (held n n l) ≡ n
+in_places n l = length-take-le n (l ++ replicate n Nothing) (simp (length-append, length-replicate) (omega arith))
 
-counts : (n m : ℕ) (l : List Action) → length l ≤ n → T (passes is_act l) → length l ≡ act_count (map item (held n m l))
+counts : (n m : ℕ) (l : List Action) → length l ≤ n → T (passes is_act l) → length l ≡ act_count (held n m l)
 counts zero m [] h t = refl
 counts zero m (x ∷ l) h t = absurd (omega arith)
 counts (suc n) zero [] h t = refl
@@ -60,7 +56,7 @@ counts (suc n) m (x ∷ l) h t =
     rw (is_true (is_act x) (left (is_act x) _ t)) (omega (arith, counts n m l (omega arith) (right (is_act x) _ t)))
 
 firsts : (n m : ℕ) (l : List Action) (k : ℕ) → length l ≤ n → T (passes is_act l) → k < length l
-    → is_act (get_or (map item (held n m l)) k (item Nothing)).action ≡ true
+    → is_act (get_or (held n m l) k Nothing) ≡ true
 firsts n m [] k h t i = absurd (omega arith)
 firsts zero m (x ∷ l) k h t i = absurd (omega arith)
 firsts (suc n) m (x ∷ l) zero h t i = is_true (is_act x) (left (is_act x) _ t)
@@ -72,36 +68,39 @@ abbrev Yields : Outcome → Type 0
 Yields o = Yield o.reply
 
 -- a reply with these actions, by its transfer's kind
-with_actions_lem : (l : List Action) → length l ≤ 6 → T (passes is_act l) → (x : Answer) (t : Transfer) → t.kind ≤ 4
+with_actions_lem : (l : List Action) → length l ≤ 6 → T (passes is_act l) → (x : Answer) (t : Option Transfer) → kind_no t ≤ 4
     → Yield (record { answer = x; transfer = t; actions = actions l })
 with_actions_lem l h a x t k =
     record { transfer = k; places = in_places 6 l; most = h; counted = counts 6 6 l h a; first = λ i j. firsts 6 6 l i h a j }
 
 -- and without one
-silent : (x : Answer) (t : Transfer) → t.kind ≤ 4 → Yield (record { answer = x; transfer = t; actions = actions [] })
+silent : (x : Answer) (t : Option Transfer) → kind_no t ≤ 4 → Yield (record { answer = x; transfer = t; actions = actions [] })
 silent = with_actions_lem [] (omega arith) tt
 
 -- nor a transfer
-nothing : (x : Answer) → Yield (record { answer = x; transfer = no_transfer; actions = actions [] })
-nothing x = silent x no_transfer (omega arith)
+nothing : (x : Answer) → Yield (record { answer = x; transfer = None; actions = actions [] })
+nothing x = silent x None (omega arith)
 
 -- what every starter may give: none, or a transfer of one of the four kinds
 abbrev Small : Started → Type 0
-Small s = (begun s.answer s.transfer).kind ≤ 4
+Small s = kind_no (begun s.answer) ≤ 4
 
-register_small : (k x y : ℕ) (d : Driver) → k ≤ 4 → Small (register_transfer k x y d)
+kind_small : (k : TransferKind) → kind_value k ≤ 4
+kind_small k = grind arith
+
+register_small : (k : TransferKind) (x y : ℕ) (d : Driver) → Small (register_transfer k x y d)
 unfolding register_transfer
-register_small k x y d h = either Small _ _ _ h (omega arith)
+register_small k x y d = grind (arith, kind_small k)
 
-read_small : (s : Slot) (n : ℕ) (d : Driver) → Small (frame_read_into s n d)
+read_small : (s : Option Lent) (n : ℕ) (d : Driver) → Small (frame_read_into s n d)
 unfolding frame_read_into
-read_small Empty n d = omega arith
-read_small (Held c l) n d = either Small _ _ _ (omega arith) (omega arith)
+read_small None n d = omega arith
+read_small (Some x) n d = either Small _ _ _ (omega arith) (omega arith)
 
-write_small : (s : Slot) (d : Driver) → Small (frame_write_from s d)
+write_small : (s : Option Lent) (d : Driver) → Small (frame_write_from s d)
 unfolding frame_write_from
-write_small Empty d = omega arith
-write_small (Held c l) d = either Small _ _ _ (omega arith) (omega arith)
+write_small None d = omega arith
+write_small (Some x) d = either Small _ _ _ (omega arith) (omega arith)
 
 -- ---- the rows of all states
 
@@ -120,8 +119,8 @@ notices_act a d = record { power = tt; config = tt; sent = tt; dropped = tt; rec
 access_yields : (x : Access) (a : Arrived) (l : List Action) (d : Driver) → length l ≤ 6 → T (passes is_act l)
     → Yields (accessed x a (actions l) d)
 access_yields none a l d h t = with_actions_lem l h t _ _ (omega arith)
-access_yields (reads r) a l d h t = with_actions_lem l h t _ _ (register_small 1 _ _ d (omega arith))
-access_yields (writes r v) a l d h t = with_actions_lem l h t _ _ (register_small 2 _ _ d (omega arith))
+access_yields (reads r) a l d h t = with_actions_lem l h t _ _ (register_small transfer.RegisterRead _ _ d)
+access_yields (writes r v) a l d h t = with_actions_lem l h t _ _ (register_small transfer.RegisterWrite _ _ d)
 access_yields reads_length a l d h t = with_actions_lem l h t _ _ (read_small d.buffers.rx_buf 0 d)
 access_yields reads_frame a l d h t = with_actions_lem l h t _ _ (read_small d.buffers.rx_buf a.result d)
 access_yields writes_frame a l d h t = with_actions_lem l h t _ _ (write_small d.buffers.tx_buf d)
@@ -140,13 +139,13 @@ case_yields a d = row_yields (row_of a d) a d (row_of_lem (λ n. row_six) rows_s
 -- ---- completions
 
 -- a register transfer without actions
-asks : (k x y : ℕ) (d : Driver) → k ≤ 4 → Yields (step_of (register_transfer k x y d) (actions []))
-asks k x y d h = silent _ _ (register_small k x y d h)
+asks : (k : TransferKind) (x y : ℕ) (d : Driver) → Yields (step_of (register_transfer k x y d) (actions []))
+asks k x y d = silent _ _ (register_small k x y d)
 
 firing_yields : (d : Driver) → Yields (handle_interrupt d)
 unfolding handle_interrupt
 firing_yields d =
-    either Yields _ _ _ (either Yields _ _ _ (asks 2 _ _ _ (omega arith)) (asks 1 _ _ _ (omega arith))) (nothing Done)
+    either Yields _ _ _ (either Yields _ _ _ (asks transfer.RegisterWrite _ _ _) (asks transfer.RegisterRead _ _ _)) (nothing Done)
 
 -- a step that falls on has the first one's transfer and the next one's actions
 falls_yields : (first next : Outcome) → Yields first → Yields next → Yields (falls_on first next)
@@ -158,10 +157,10 @@ completion_yields a d =
     completion_by Yields (λ e. Unit {0}) (record { flags = λ f e s h g. tt; moves = λ b e g. tt; reads = λ e h g. tt })
     (record {
       fires = λ e g. firing_yields e;
-      sends = λ e g s. asks 1 _ _ _ (omega arith);
-      waits = λ e g. asks 1 _ _ _ (omega arith);
+      sends = λ e g s. asks transfer.RegisterRead _ _ _;
+      waits = λ e g. asks transfer.RegisterRead _ _ _;
       commits = λ b e g.
-          falls_yields (commits_first e) (own_case b (commits_first e).driver) (asks 2 _ _ _ (omega arith))
+          falls_yields (commits_first e) (own_case b (commits_first e).driver) (asks transfer.RegisterWrite _ _ _)
           (case_yields b (commits_first e).driver);
       case = λ b e g. case_yields b e;
     }) a d tt
@@ -171,8 +170,8 @@ six_actions d c p =
     every_call d p (λ c t. Yields t.outcome) (record {
       refuses = λ c n e t same. nothing (answer_of n);
       rests = λ c e q. nothing Done;
-      reads = λ c x y e q. asks 1 x y e (omega arith);
-      writes = λ c x y e q. asks 2 x y e (omega arith);
-      resets = λ c e q. with_actions_lem reset_actions (omega arith) tt Done no_transfer (omega arith);
+      reads = λ c x y e q. asks transfer.RegisterRead x y e;
+      writes = λ c x y e q. asks transfer.RegisterWrite x y e;
+      resets = λ c e q. with_actions_lem reset_actions (omega arith) tt Done None (omega arith);
       completes = λ c a q e. completion_yields a d;
     }) c

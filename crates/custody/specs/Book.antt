@@ -1,14 +1,15 @@
 -- Document 01, "The book of custody": fed with each call's arguments, answer, actions and transfer, never with the driver's record. A
 -- fault stays once found; what is found faulty is entered all the same, so that there is nothing to choose.
 use Rattle.std.specs.Prelude.{ℕ, zero, suc, ◌+◌, Bool, true, false, cond, not, ◌&&◌, ◌||◌, List, [], ◌∷◌, ◌++◌, replicate, ◌==◌, nat_le}
-use Rattle.std.specs.Prelude.{nat_lt, slice_index_or, slice_set}
+use Rattle.std.specs.Prelude.{nat_lt, slice_index_or, slice_set, Option, None, Some}
 use Rattle.rf233.specs.Answer.{answer_no}
 use Rattle.rf233.specs.Record.{one}
 use Rattle.rf233.specs.Place.{client_place, own_place, transmit_place, receive_place, transfer_place}
+use Rattle.rf233.specs.Transfer.{kind_no}
 use Rattle.rf233.specs.declared.action.Action.{Action}
 use Rattle.rf233.specs.declared.action.Action.TheVariants as action
-use Rattle.rf233.specs.declared.action.Item.{Item}
 use Rattle.rf233.specs.declared.answer.Reply.{Reply}
+use Rattle.rf233.specs.declared.transfer.Transfer.{Transfer}
 
 -- each of the 19 buffers' places; the transfer under way by its kind (0 none) and its two buffers; the three counts; the fault
 pub record Page : Type 0 where
@@ -21,14 +22,19 @@ pub record Page : Type 0 where
   pub dropped : ℕ
   pub fault : Bool
 
--- the page of these values
-abbrev pub page : List ℕ → ℕ → ℕ → ℕ → ℕ → ℕ → ℕ → Bool → Page
-page l k w r a h d f =
-    record { places = l; kind = k; write = w; read = r; accepted = a; handed = h; dropped = d; fault = f }
-
 -- at first 16, 17 and 18 are in their own places, 0 to 15 with the client; no transfer; counts 0
 abbrev pub new_page : Page
-new_page = page (replicate 16 client_place ++ (own_place ∷ own_place ∷ own_place ∷ [])) 0 0 0 0 0 0 false
+new_page =
+    record {
+      places = replicate 16 client_place ++ (own_place ∷ own_place ∷ own_place ∷ []);
+      kind = 0;
+      write = 0;
+      read = 0;
+      accepted = 0;
+      handed = 0;
+      dropped = 0;
+      fault = false;
+    }
 
 -- a call, as far as the book looks at its arguments
 pub data Fed : Type 0 where
@@ -68,8 +74,11 @@ full p k = nat_le (room p) (occupied p k)
 -- what is counted there, so only this one asks for room
 abbrev pub brought : ℕ → ℕ → Page → Page
 brought b p k =
-    page (slice_set k.places b p) k.kind k.write k.read (k.accepted + 1) k.handed k.dropped
-    (k.fault || (missing b client_place k.places || full p k))
+    record k {
+      places = slice_set k.places b p;
+      accepted = k.accepted + 1;
+      fault = k.fault || (missing b client_place k.places || full p k);
+    }
 
 -- when a transfer ends its two buffers go back to the places that a transfer of that kind takes them from
 abbrev pub end_places : ℕ → ℕ → ℕ → List ℕ → List ℕ
@@ -78,8 +87,8 @@ end_places k w r l = slice_set (slice_set l w (write_from k)) r (read_from k)
 -- completion: the transfer ends; with none it cannot
 abbrev pub ended : Page → Page
 ended k =
-    cond (k.kind == 0) (page k.places 0 0 0 k.accepted k.handed k.dropped true)
-    (page (end_places k.kind k.write k.read k.places) 0 0 0 k.accepted k.handed k.dropped k.fault)
+    cond (k.kind == 0) (record k { kind = 0; write = 0; read = 0; fault = true })
+    (record k { places = end_places k.kind k.write k.read k.places; kind = 0; write = 0; read = 0 })
 
 -- what the call itself does
 abbrev pub called : Fed → Page → Page
@@ -91,8 +100,12 @@ called other k = k
 -- a notice or a drop: buffer b goes from place p to the client; m and n are added to handed back and dropped
 abbrev pub given : ℕ → ℕ → ℕ → ℕ → Page → Page
 given b p m n k =
-    page (slice_set k.places b client_place) k.kind k.write k.read k.accepted (k.handed + m) (k.dropped + n)
-    (k.fault || missing b p k.places)
+    record k {
+      places = slice_set k.places b client_place;
+      handed = k.handed + m;
+      dropped = k.dropped + n;
+      fault = k.fault || missing b p k.places;
+    }
 
 -- an action: a sent notice or a drop from the transmit place, a received notice from the receive place; others nothing
 abbrev pub noted : Action → Page → Page
@@ -115,9 +128,9 @@ noted (action.ResetClear n) k = k
 noted action.ResetSet k = k
 
 -- the actions in order
-abbrev pub noted_all : List Item → Page → Page
+abbrev pub noted_all : List Action → Page → Page
 noted_all [] k = k
-noted_all (x ∷ more) k = noted_all more (noted x.action k)
+noted_all (x ∷ more) k = noted_all more (noted x k)
 
 -- it names the right own buffers: 16 and 17 (register), 18 (frame)
 abbrev pub names_own : ℕ → ℕ → ℕ → Bool
@@ -126,9 +139,23 @@ names_own k w r = cond (k == 3) (w == 18) (cond (k == 4) (r == 18) (w == 16 && r
 -- a transfer, none being under way: it takes the two buffers that it names
 abbrev pub taken : ℕ → ℕ → ℕ → Page → Page
 taken n w r k =
-    page (slice_set (slice_set k.places w transfer_place) r transfer_place) n w r k.accepted k.handed k.dropped
-    (k.fault || (not (k.kind == 0) || (nat_lt 4 n || (not (names_own n w r)
-    || (missing w (write_from n) k.places || missing r (read_from n) k.places)))))
+    record k {
+      places = slice_set (slice_set k.places w transfer_place) r transfer_place;
+      kind = n;
+      write = w;
+      read = r;
+      fault = k.fault || (not (k.kind == 0) || (nat_lt 4 n || (not (names_own n w r)
+          || (missing w (write_from n) k.places || missing r (read_from n) k.places))));
+    }
+
+-- the two buffers of a call's transfer: 0 where there is none
+abbrev pub write_no : Option Transfer → ℕ
+write_no None = 0
+write_no (Some t) = t.write
+
+abbrev pub read_no : Option Transfer → ℕ
+read_no None = 0
+read_no (Some t) = t.read
 
 -- the transfer of a call, if it started one
 abbrev pub begun : ℕ → ℕ → ℕ → Page → Page
@@ -155,19 +182,17 @@ is_act (action.ResetClear n) = true
 is_act action.ResetSet = true
 
 -- such an action is among them
-abbrev pub acts : List Item → Bool
+abbrev pub acts : List Action → Bool
 acts [] = false
-acts (x ∷ more) = is_act x.action || acts more
+acts (x ∷ more) = is_act x || acts more
 
 -- refused: nothing changes; an action or a transfer given with it is a fault
 abbrev pub turned_down : Reply → Page → Page
-turned_down y k =
-    page k.places k.kind k.write k.read k.accepted k.handed k.dropped
-    (k.fault || (acts y.actions.items || nat_lt 0 y.transfer.kind))
+turned_down y k = record k { fault = k.fault || (acts y.actions.items || nat_lt 0 (kind_no y.transfer)) }
 
 -- a call and what it yielded, entered: the call, its actions, its transfer
 unfoldable pub entered : Fed → Reply → Page → Page
 entered f y k =
     cond (answer_no y.answer == 0)
-    (begun y.transfer.kind y.transfer.write y.transfer.read (noted_all y.actions.items (called f k)))
+    (begun (kind_no y.transfer) (write_no y.transfer) (read_no y.transfer) (noted_all y.actions.items (called f k)))
     (turned_down y k)

@@ -1,6 +1,9 @@
 -- The code's book of custody as a page of the definition. Its counts are a machine's: they are given modulo 2 ^ 64.
-use Rattle.std.specs.Prelude.{◌%◌, ◌^◌}
-use Rattle.custody.specs.Book.{Page, page, Fed}
+use Rattle.std.specs.Prelude.{List, map, ℕ, ◌%◌, ◌^◌}
+use Rattle.rf233.specs.Place.{place_no}
+use Rattle.rf233.specs.Transfer.{kind_no}
+use Rattle.rf233.specs.declared.place.Place.{Place}
+use Rattle.custody.specs.Book.{Page, write_no, read_no, Fed}
 use Rattle.custody.specs.Book.Fed.{lends_transmit, lends_receive, completes, other}
 use Rattle.custody.specs.declared.book.Book.{Book}
 use Rattle.custody.specs.declared.book.Fed as code
@@ -8,12 +11,25 @@ use Rattle.custody.specs.declared.book.Fed.TheVariants.{LendsTransmit, LendsRece
 
 -- a page with its counts modulo 2 ^ 64
 unfoldable pub wrapped : Page → Page
-wrapped k =
-    page k.places k.kind k.write k.read (k.accepted % 2 ^ 64) (k.handed % 2 ^ 64) (k.dropped % 2 ^ 64) k.fault
+wrapped k = record k { accepted = k.accepted % 2 ^ 64; handed = k.handed % 2 ^ 64; dropped = k.dropped % 2 ^ 64 }
+
+-- the places by their numbers
+abbrev pub numbers : List Place → List ℕ
+numbers l = map place_no l
 
 -- what a book of the code has, as a page
 abbrev pub page_of : Book → Page
-page_of b = wrapped (page b.places b.kind b.write b.read b.accepted b.handed b.dropped b.fault)
+page_of b =
+    wrapped (record {
+      places = numbers b.places;
+      kind = kind_no b.under_way;
+      write = write_no b.under_way;
+      read = read_no b.under_way;
+      accepted = b.accepted;
+      handed = b.handed;
+      dropped = b.dropped;
+      fault = b.fault;
+    })
 
 -- a call of the code, as the book is fed it
 abbrev pub fed_of : code.Fed → Fed

@@ -12,7 +12,7 @@ use Rattle.rf233.specs.Config.{set_channel}
 use Rattle.rf233.specs.Kernel.{fired_call, completion_call}
 use Rattle.rf233.specs.Data.{transmit_call, receive_buffer_call}
 use Rattle.rf233.specs.Listeners.{set_client}
-use Rattle.rf233.specs.Driver.{Client}
+use Rattle.rf233.specs.declared.driver.Client.{Client}
 use Rattle.rf233.specs.Guard.{Called}
 use Rattle.rf233.specs.Create.{new_call}
 use Rattle.rf233.specs.Place.{client_place, own_place, transfer_place, places_of}
@@ -121,22 +121,22 @@ kind_of k = cond (k == 2) 1 k
 abbrev pub under_kind : Under → ℕ
 under_kind Idle = 0
 under_kind Register = 1
-under_kind (FrameRead c l) = 3
-under_kind (FrameWrite c l) = 4
+under_kind (FrameRead x) = 3
+under_kind (FrameWrite x) = 4
 
 -- the buffer that it sends
 abbrev pub under_write : Under → ℕ
 under_write Idle = 0
 under_write Register = 16
-under_write (FrameRead c l) = 18
-under_write (FrameWrite c l) = c
+under_write (FrameRead x) = 18
+under_write (FrameWrite x) = x.buffer
 
 -- the buffer that it reads into
 abbrev pub under_read : Under → ℕ
 under_read Idle = 0
 under_read Register = 17
-under_read (FrameRead c l) = c
-under_read (FrameWrite c l) = 18
+under_read (FrameRead x) = x.buffer
+under_read (FrameWrite x) = 18
 
 -- what is claimed at the end of the list
 pub record Kept (w : World) : Type 0 where

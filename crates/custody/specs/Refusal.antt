@@ -1,7 +1,7 @@
 -- Demand 1: any call gets an answer, and one that is turned down starts no transfer, has no action, and alters neither driver nor pool,
 -- save that `start`'s ALREADY (6) withdraws a waiting stop. It is said of the calls of demand 3 (Claim.antt), so that a new call joins
 -- both. And refusal 8's purpose: a buffer that the driver has is not lent again.
-use Rattle.std.specs.Prelude.{◌≡◌, ℕ, Bool, true, false, cond, T, List, [], ◌∷◌, ◌==◌, ◌≢◌}
+use Rattle.std.specs.Prelude.{◌≡◌, ℕ, Bool, true, false, cond, T, List, [], ◌∷◌, ◌==◌, ◌≢◌, None}
 use Rattle.rf233.specs.Action.{actions}
 use Rattle.rf233.specs.Answer.{answer_no, refused}
 use Rattle.rf233.specs.Choice.{one_of}
@@ -10,7 +10,6 @@ use Rattle.rf233.specs.Driver.{flagged}
 use Rattle.rf233.specs.Driver.Flag.{sleep_pending}
 use Rattle.rf233.specs.Guard.{Called}
 use Rattle.rf233.specs.Record.{record_has}
-use Rattle.rf233.specs.Transfer.{no_transfer}
 use Rattle.rf233.specs.declared.driver.Driver.{Driver}
 use Rattle.custody.specs.Claim.{Call, made}
 use Rattle.custody.specs.Claim.Call.{
@@ -55,7 +54,7 @@ left_by c n d = cond (withdraws c n) (flagged sleep_pending false d) d
 
 -- what a call yields that is turned down: no transfer, no action, the driver e, the pool p
 pub record TurnedDown (t : Called) (e : Driver) (p : List ℕ) : Type 0 where
-  pub transfer : t.outcome.reply.transfer ≡ no_transfer
+  pub transfer : t.outcome.reply.transfer ≡ None
   pub actions : t.outcome.reply.actions ≡ actions []
   pub driver : t.outcome.driver ≡ e
   pub pool : t.pool ≡ p
