@@ -1,67 +1,86 @@
 -- Laws of decimal digits: what one more digit does, and when a word says no number. Assumes nothing.
-use mathlib.Core.Path.{◌≡◌}
-use mathlib.Core.Bool.{true, false, and-false}
-use mathlib.Core.List.{List, [], ◌∷◌}
-use Prim.Native.Nat.{ℕ, ◌+◌, ◌*◌, ◌-◌, ◌^◌, ◌≤◌, ◌<◌}
-use native.Mathlib.Numerals.{add-one}
-use native.Mathlib.Omega.{arith}
-use borrow.Author.Tests.{le-leb, lt-leb, lt-ltb, le-ltb}
-use lib.ListN.{length, get_or, drop, drop_of_length-le}
-use lib.Seq.{drop-cons}
-use Rattle.script.specs.Decimal.{is_digit, all_digits, value_from, no_decimal, number_if, decimal_of}
+use Rattle.std.proofs.Common.{
+  ◌≡◌,
+  sym,
+  ◌∙◌,
+  ℕ,
+  ◌+◌,
+  ◌*◌,
+  ◌-◌,
+  ◌^◌,
+  ◌≤◌,
+  ◌<◌,
+  true,
+  false,
+  List,
+  [],
+  ◌∷◌,
+  None,
+  Some,
+  length,
+  get_or,
+  drop,
+  arith,
+  add-one,
+  drop-cons,
+}
+use mathlib.Core.Bool.{and-false}
+use borrow.Author.Tests.{lt-ltb, le-ltb}
+use lib.ListN.{drop_of_length-le}
+use Rattle.script.specs.Decimal.{is_digit, all_digits, value_from, decimal_of}
 
 -- more digits say no less
-pub at_least : (v : ℕ) (w : List ℕ) → v ≤ value_from v w
+at_least : (v : ℕ) (w : List ℕ) → v ≤ value_from v w
 unfolding value_from
 at_least v [] = omega arith
 at_least v (b ∷ w) = omega (arith, at_least (v * 10 + (b - 48)) w)
 
-module _ (w : List ℕ) (i : ℕ) (within : i < length w) where
-  next : drop i w ≡ get_or w i 0 ∷ drop (i + 1) w
-  next = rw (add-one, drop-cons w i 0)
+-- an empty word says no number, nor one with another byte than digits
+pub none_empty : (w : List ℕ) → length w ≡ 0 → None ≡ decimal_of w
+unfolding decimal_of
+none_empty w h = rw (le-ltb 0 (length w) (omega arith))
 
-  -- one digit taken off
-  pub digit_off : is_digit (get_or w i 0) ≡ true → all_digits (drop (i + 1) w) ≡ all_digits (drop i w)
-  unfolding all_digits
-  digit_off h = rw (next, h)
+none_other : (w : List ℕ) → all_digits w ≡ false → None ≡ decimal_of w
+unfolding decimal_of
+none_other w h = rw (h, and-false)
 
-  pub value_off : (v : ℕ) → value_from (v * 10 + (get_or w i 0 - 48)) (drop (i + 1) w) ≡ value_from v (drop i w)
-  unfolding value_from
-  value_off v = rw next
+-- the digits before place i of a word say v
+module _ (w : List ℕ) (i v : ℕ) (digits : all_digits (drop i w) ≡ all_digits w) (value : value_from v (drop i w) ≡ value_from 0 w) where
+  -- one more byte
+  module _ (within : i < length w) where
+    next : drop i w ≡ get_or w i 0 ∷ drop (i + 1) w
+    next = rw (add-one, drop-cons w i 0)
 
-  -- a byte that is no digit
-  pub not_digits : is_digit (get_or w i 0) ≡ false → all_digits (drop i w) ≡ false
-  unfolding all_digits
-  not_digits h = rw (next, h)
+    -- it is no digit
+    pub other_byte : is_digit (get_or w i 0) ≡ false → None ≡ decimal_of w
+    unfolding all_digits
+    other_byte h = none_other w (sym digits ∙ rw (next, h))
 
--- `0` to `9`
-pub digit : (b : ℕ) → 48 ≤ b → b ≤ 57 → is_digit b ≡ true
-digit b h k = rw (le-leb _ _ h, le-leb _ _ k)
+    -- with it the number is too large
+    pub too_large : 2 ^ 64 ≤ v * 10 + (get_or w i 0 - 48) → None ≡ decimal_of w
+    unfolding value_from decimal_of
+    too_large h =
+        let off = rw next at value in
+        let large : 2 ^ 64 ≤ value_from 0 w = omega (arith, off, h, at_least (v * 10 + (get_or w i 0 - 48)) (drop (i + 1) w)) in
+        rw (le-ltb _ _ large, and-false (all_digits w), and-false)
 
-pub below : (b : ℕ) → b < 48 → is_digit b ≡ false
-below b h = rw (lt-leb _ _ h)
+    -- it is a digit
+    pub digit_off : is_digit (get_or w i 0) ≡ true → all_digits (drop (i + 1) w) ≡ all_digits w
+    unfolding all_digits
+    digit_off h = rw (next, h) at digits
 
-pub above : (b : ℕ) → 57 < b → is_digit b ≡ false
-above b h = rw (lt-leb _ _ h, and-false)
+    pub value_off : (n : ℕ) → n ≡ v * 10 + (get_or w i 0 - 48) → value_from n (drop (i + 1) w) ≡ value_from 0 w
+    unfolding value_from
+    value_off n e = rw e (rw next at value)
 
--- when a word says a number
-module _ (w : List ℕ) where
-  pub none_empty : length w ≡ 0 → decimal_of w ≡ no_decimal
-  unfolding decimal_of
-  none_empty h = rw (le-ltb 0 (length w) (omega arith))
+  -- the word has no more
+  pub said : length w ≤ i → 0 < length w → v < 2 ^ 64 → Some v ≡ decimal_of w
+  unfolding decimal_of all_digits value_from
+  said h k l =
+      let gone = drop_of_length-le w h in
+      let all = rw gone at digits in
+      let says = rw gone at value in
+      rw (lt-ltb _ _ k, ← all, ← says, lt-ltb _ _ l)
 
-  pub none_other : all_digits w ≡ false → decimal_of w ≡ no_decimal
-  unfolding decimal_of
-  none_other h = rw (h, and-false)
-
-  pub none_large : 2 ^ 64 ≤ value_from 0 w → decimal_of w ≡ no_decimal
-  unfolding decimal_of
-  none_large h = rw (le-ltb _ _ h, and-false (all_digits w), and-false)
-
-  pub some : 0 < length w → all_digits w ≡ true → value_from 0 w < 2 ^ 64 → decimal_of w ≡ number_if true (value_from 0 w)
-  unfolding decimal_of
-  some h k l = rw (lt-ltb _ _ h, k, lt-ltb _ _ l)
-
--- past the last digit
-pub at_end : (w : List ℕ) (i : ℕ) → length w ≤ i → drop i w ≡ []
-at_end w i h = drop_of_length-le w h
+-- the laws that `digits` asks for
+pub ruleset digit_laws = (none_empty, other_byte, too_large, digit_off, value_off, said)

@@ -1,4 +1,4 @@
-pub mod ArgumentLaws
-pub mod Digits
-pub mod ParseLaws
 pub mod WordLaws
+pub mod Digits
+pub mod ArgumentLaws
+pub mod ParseLaws

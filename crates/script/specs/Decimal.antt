@@ -1,6 +1,5 @@
 -- Decimal digits: what number a word says.
-use Rattle.std.specs.Prelude.{ℕ, ◌+◌, ◌*◌, ◌-◌, ◌^◌, Bool, true, false, ◌&&◌, List, [], ◌∷◌, leb, ltb, length}
-use Rattle.script.specs.declared.words.Decimal.{Decimal}
+use Rattle.std.specs.Prelude.{ℕ, ◌+◌, ◌*◌, ◌-◌, ◌^◌, Bool, true, false, ◌&&◌, List, [], ◌∷◌, leb, ltb, length, Option, Some, None}
 
 -- a byte is one of `0` to `9`
 abbrev pub is_digit : ℕ → Bool
@@ -16,15 +15,11 @@ unfoldable pub value_from : ℕ → List ℕ → ℕ
 value_from v [] = v
 value_from v (b ∷ w) = value_from (v * 10 + (b - 48)) w
 
--- no number
-abbrev pub no_decimal : Decimal
-no_decimal = record { good = false; value = 0 }
-
 -- the number v, where the test holds
-abbrev pub number_if : Bool → ℕ → Decimal
-number_if true v = record { good = true; value = v }
-number_if false v = no_decimal
+abbrev pub number_if : Bool → ℕ → Option ℕ
+number_if true v = Some v
+number_if false v = None
 
 -- digits, one or more, that say a number below 2 ^ 64
-unfoldable pub decimal_of : List ℕ → Decimal
+unfoldable pub decimal_of : List ℕ → Option ℕ
 decimal_of w = number_if (ltb 0 (length w) && (all_digits w && ltb (value_from 0 w) (2 ^ 64))) (value_from 0 w)

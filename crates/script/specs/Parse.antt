@@ -1,12 +1,29 @@
 -- The lines of a script: the table of names and forms, and what a line is read as.
-use Prim.Native.Char.{code}
-use Prim.Native.String.{String, [] as end, ◌∷◌ as ◌then◌}
-use Rattle.std.specs.Prelude.{ℕ, ◌≡◌, Bool, true, false, cond, ◌&&◌, List, [], ◌∷◌, ◌++◌, eqb, ltb, length}
-use Rattle.std.proofs.lemmas.List.Edits.{sets}
+use Prim.Native.String.{String}
+use Rattle.std.specs.Prelude.{
+  ℕ,
+  Bool,
+  true,
+  cond,
+  List,
+  [],
+  ◌∷◌,
+  ◌++◌,
+  eqb,
+  ltb,
+  length,
+  codes,
+  bytes_eq,
+  Option,
+  Some,
+  None,
+  Result,
+  Ok,
+  Err,
+}
+use Rattle.script.specs.declared.line.Malformed.{Malformed}
 use Rattle.script.specs.declared.line.Line.{Line}
 use Rattle.script.specs.declared.line.Line.TheVariants.{
-  Malformed,
-  Passed,
   New,
   Start,
   Stop,
@@ -38,13 +55,8 @@ use Rattle.script.specs.declared.line.Line.TheVariants.{
   Mark,
   Back,
 }
-use Rattle.script.specs.Words.{words_of}
-use Rattle.script.specs.Arguments.{any, Form, numbers, power, bytes, placed, none, read_as, named}
-
--- the bytes of a name
-abbrev pub ascii : String → List ℕ
-ascii end = []
-ascii (c then s) = code c ∷ ascii s
+use Rattle.script.specs.Words.{malformed, words_of}
+use Rattle.script.specs.Arguments.{any, Form, numbers, flag, power, bytes, placed, none, read_as, named}
 
 -- a name, and the form of what stands after it
 pub record Row : Type 0 where
@@ -52,11 +64,7 @@ pub record Row : Type 0 where
   pub form : Form
 
 abbrev pub row : String → Form → Row
-row name form = record { name = ascii name; form = form }
-
--- a flag, 0 or 1
-abbrev pub flag : (Bool → Line) → Form
-flag read = numbers (1 ∷ []) (λ v. cond (eqb v 1) (read true) (read false))
+row name form = record { name = codes name; form = form }
 
 -- calls
 abbrev pub call_rows : List Row
@@ -66,7 +74,7 @@ call_rows =
     ∷ row "stop" (numbers [] Stop)
     ∷ row "config_commit" (numbers [] ConfigCommit)
     ∷ row "fired" (numbers [] Fired)
-    ∷ row "read_write_done" (bytes 0 160 ReadWriteDone)
+    ∷ row "read_write_done" (bytes 0 160 (λ bs. ReadWriteDone (length bs)))
     ∷ row "transmit" (numbers (any ∷ any ∷ any ∷ []) Transmit)
     ∷ row "set_receive_buffer" (numbers (any ∷ any ∷ []) SetReceiveBuffer)
     ∷ row "reset" (flag Reset)
@@ -77,7 +85,7 @@ abbrev pub setting_rows : List Row
 setting_rows =
     row "set_address" (numbers (65535 ∷ []) SetAddress)
     ∷ row "set_pan" (numbers (65535 ∷ []) SetPan)
-    ∷ row "set_address_long" (bytes 8 8 (λ count. SetAddressLong))
+    ∷ row "set_address_long" (bytes 8 8 SetAddressLong)
     ∷ row "set_tx_power" (power SetTxPower)
     ∷ row "set_channel" (numbers (255 ∷ []) SetChannel)
     ∷ []
@@ -107,7 +115,7 @@ query_rows =
 -- lines that are not calls
 abbrev pub around_rows : List Row
 around_rows =
-    row "pool" (placed 4096 Pool)
+    row "pool" (placed 4096 (λ at bs. Pool at (length bs)))
     ∷ row "pool_length" (numbers (4096 ∷ []) PoolLength)
     ∷ row "mark" (numbers [] Mark)
     ∷ row "back" (numbers [] Back)
@@ -126,24 +134,17 @@ from_settings = setting_rows ++ from_listeners
 abbrev pub table : List Row
 table = call_rows ++ from_settings
 
--- the same bytes
-unfoldable pub same_bytes : List ℕ → List ℕ → Bool
-same_bytes [] [] = true
-same_bytes [] (b ∷ t) = false
-same_bytes (a ∷ s) [] = false
-same_bytes (a ∷ s) (b ∷ t) = eqb a b && same_bytes s t
-
 -- the form of a name; one that is not in the table has none
 unfoldable pub form_of : List Row → List ℕ → Form
 form_of [] name = none
-form_of (r ∷ rows) name = cond (same_bytes name r.name) r.form (form_of rows name)
+form_of (r ∷ rows) name = cond (bytes_eq name r.name) r.form (form_of rows name)
 
 -- a line's words: its name, and those after it
-unfoldable pub read_words : ℕ → List (List ℕ) → Line
-read_words room [] = Malformed
+abbrev pub read_words : ℕ → List (List ℕ) → Result Line Malformed
+read_words room [] = Err malformed
 read_words room (name ∷ ws) = read_as (form_of table name) room ws
 
-unfoldable pub named_words : List (List ℕ) → List ℕ
+abbrev pub named_words : List (List ℕ) → List ℕ
 named_words [] = []
 named_words (name ∷ ws) = named (form_of table name) ws
 
@@ -152,15 +153,16 @@ abbrev pub is_passed : List ℕ → Bool
 is_passed [] = true
 is_passed (b ∷ s) = eqb b 35
 
--- what a line, without its line feed, is read as, where there is room for so many bytes
-unfoldable pub line_of : ℕ → List ℕ → Line
-line_of room line = cond (ltb 1024 (length line)) Malformed (cond (is_passed line) Passed (read_words room (words_of line)))
+-- a line that was read, and is not passed over
+abbrev pub some_line : Result Line Malformed → Result (Option Line) Malformed
+some_line (Ok line) = Ok (Some line)
+some_line (Err e) = Err e
+
+-- what a line, without its line feed, is read as, where there is room for so many bytes; none, where it is passed over
+unfoldable pub line_of : ℕ → List ℕ → Result (Option Line) Malformed
+line_of room line =
+    cond (ltb 1024 (length line)) (Err malformed) (cond (is_passed line) (Ok None) (some_line (read_words room (words_of line))))
 
 -- the bytes that it names
 unfoldable pub bytes_of : List ℕ → List ℕ
 bytes_of line = cond (is_passed line) [] (named_words (words_of line))
-
--- a line is read, and the bytes that it names are laid into the buffer from its start on
-pub record Parsed (line before after : List ℕ) (r : Line) : Type 0 where
-  pub read : r ≡ line_of (length before) line
-  pub laid : (r ≡ Malformed → ⊥) → after ≡ sets before 0 (bytes_of line)

@@ -1,12 +1,13 @@
 // One line of a script, read.
 
-// The bytes of `ReadWriteDone`, `SetAddressLong` and `Pool` are in the buffer that the reader was lent, from its start on.
+// A line that is none of a script's.
+#[derive(Clone, Copy, Debug, PartialEq, Eq)]
+pub struct Malformed;
+
+// The bytes of `ReadWriteDone` and `Pool` are in the buffer that the reader was lent, from its start on. As slices of it they would keep it
+// lent, and a contract says what a lent buffer holds only once nothing borrows from it.
 #[derive(Clone, Copy)]
 pub enum Line {
-    // None of the lines of a script.
-    Malformed,
-    // An empty line or a remark.
-    Passed,
     // The length of spi_buf, and the channel.
     New(u64, u8),
     Start,
@@ -23,7 +24,7 @@ pub enum Line {
     Reset(bool),
     SetAddress(u16),
     SetPan(u16),
-    SetAddressLong,
+    SetAddressLong([u8; 8]),
     SetTxPower(i8),
     SetChannel(u8),
     SetPowerClient(bool),

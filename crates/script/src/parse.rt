@@ -1,8 +1,9 @@
 // Reads one line of a script. Whatever is not exactly as the format has it is malformed. A name is looked for among the calls, the
-// settings, the listeners, the queries and the lines around the calls, in turn.
-ghost use Rattle.std.specs.Prelude.{length};
-ghost use Rattle.script.specs.Words.{words_from};
-ghost use Rattle.script.specs.Arguments.{Reads};
+// settings, the listeners, the queries and the lines around the calls, in turn, as text: of a pattern of bytes a proof would go through each
+// byte at which a name may differ.
+ghost use Rattle.std.specs.Prelude.{◌≡◌, OnOk, length};
+ghost use Rattle.std.proofs.lemmas.List.Edits.{sets};
+ghost use Rattle.script.specs.Arguments.{read_as, named};
 ghost use Rattle.script.specs.Parse.{
   table,
   from_settings,
@@ -10,187 +11,124 @@ ghost use Rattle.script.specs.Parse.{
   from_queries,
   around_rows,
   form_of,
-  Parsed,
+  line_of,
+  bytes_of,
 };
 
 use crate::arguments::{
-    address_line, address_long_line, channel_line, done_line, flag, new_line, pan_line, plain,
-    pool_length_line, pool_line, power_line, receive_buffer_line, transmit_line,
+    AREA, address_long_line, done_line, new_line, plain, pool_line, power_line,
+    receive_buffer_line, transmit_line,
 };
-use crate::line::Line;
-use crate::words::{same, word_end};
+use crate::line::{Line, Malformed};
+use crate::words::Words;
+use std::str;
 
 // The longest line, without its line feed.
 const LONGEST: usize = 1024;
 
-// The line, given without its line feed. The bytes that it names go into `bytes`.
-pub fn parse(line: &[u8], bytes: &mut [u8]) -> Line
-    ensures { Parsed line.now bytes.old bytes.new result }
+// The line, given without its line feed; none, where it is empty or a remark. The bytes that it names go into `bytes`.
+#[tactic(auto, using(crate::proofs::ParseLaws::no_utf8), unfolding(crate::specs::Parse::line_of, crate::specs::Parse::bytes_of))]
+pub fn parse(line: &[u8], bytes: &mut [u8]) -> Result<Option<Line>, Malformed>
+    ensures read { result ≡ line_of (length bytes.old) line.now }
+    ensures laid { OnOk result (bytes.new ≡ sets bytes.old 0 (bytes_of line.now)) }
 {
     if LONGEST < line.len() {
-        return Line::Malformed;
+        return Err(Malformed);
     }
-    if line.len() == 0 {
-        return Line::Passed;
+    if line.is_empty() || line[0] == b'#' {
+        return Ok(None);
     }
-    if line[0] == b'#' {
-        return Line::Passed;
+    let mut words = Words::of(line);
+    let name = words.next().ok_or(Malformed)?;
+    match str::from_utf8(name) {
+        Ok(name) => Ok(Some(call(name, words, bytes)?)),
+        Err(_) => Err(Malformed),
     }
-    let end = word_end(line, 0);
-    call(line, &line[0..end], bytes)
 }
 
-// The calls that a new driver, the radio's states, the kernel and a lent buffer have, in the order of the format's table.
-fn call(line: &[u8], name: &[u8], bytes: &mut [u8]) -> Line
-    ensures { Reads (form_of table name.now) (words_from line.now (length name.now)) bytes.old
-        bytes.new result }
+// The calls that a new driver, the radio's states, the kernel and a lent buffer have, in the order of the format's table. The name, the
+// words behind it and the buffer go on from here as they are: a struct that holds a lent buffer would be taken apart again in each
+// function.
+#[tactic(auto, unfolding(crate::specs::Parse::form_of))]
+fn call(name: &str, words: Words, bytes: &mut [u8]) -> Result<Line, Malformed>
+    ensures read { result ≡ read_as (form_of table name.now) (length bytes.old) words.entry }
+    ensures laid { OnOk result (bytes.new ≡ sets bytes.old 0 (named (form_of table name.now) words.entry)) }
 {
-    let at = name.len();
-    if same(name, b"new") {
-        return new_line(line, at);
+    match name {
+        "new" => new_line(words),
+        "start" => plain(words, Line::Start),
+        "stop" => plain(words, Line::Stop),
+        "config_commit" => plain(words, Line::ConfigCommit),
+        "fired" => plain(words, Line::Fired),
+        "read_write_done" => done_line(words, bytes),
+        "transmit" => transmit_line(words),
+        "set_receive_buffer" => receive_buffer_line(words),
+        "reset" => Ok(Line::Reset(words.flag()?)),
+        _ => setting(name, words, bytes),
     }
-    if same(name, b"start") {
-        return plain(line, at, Line::Start);
-    }
-    if same(name, b"stop") {
-        return plain(line, at, Line::Stop);
-    }
-    if same(name, b"config_commit") {
-        return plain(line, at, Line::ConfigCommit);
-    }
-    if same(name, b"fired") {
-        return plain(line, at, Line::Fired);
-    }
-    if same(name, b"read_write_done") {
-        return done_line(line, at, bytes);
-    }
-    if same(name, b"transmit") {
-        return transmit_line(line, at);
-    }
-    if same(name, b"set_receive_buffer") {
-        return receive_buffer_line(line, at);
-    }
-    if same(name, b"reset") {
-        return flag(line, at, Line::Reset(true), Line::Reset(false));
-    }
-    setting(line, name, bytes)
 }
 
 // The settings: the addresses, the PAN, the power and the channel.
-fn setting(line: &[u8], name: &[u8], bytes: &mut [u8]) -> Line
-    ensures { Reads (form_of from_settings name.now) (words_from line.now (length name.now)) bytes.old
-        bytes.new result }
+#[tactic(auto, using(crate::proofs::ArgumentLaws::number_laws), unfolding(crate::specs::Parse::form_of))]
+fn setting(name: &str, words: Words, bytes: &mut [u8]) -> Result<Line, Malformed>
+    ensures read { result ≡ read_as (form_of from_settings name.now) (length bytes.old) words.entry }
+    ensures laid { OnOk result (bytes.new ≡ sets bytes.old 0 (named (form_of from_settings name.now) words.entry)) }
 {
-    let at = name.len();
-    if same(name, b"set_address") {
-        return address_line(line, at);
+    match name {
+        "set_address" => Ok(Line::SetAddress(words.last_number(65535)? as u16)),
+        "set_pan" => Ok(Line::SetPan(words.last_number(65535)? as u16)),
+        "set_address_long" => address_long_line(words, bytes),
+        "set_tx_power" => power_line(words),
+        "set_channel" => Ok(Line::SetChannel(words.last_number(255)? as u8)),
+        _ => listener(name, words, bytes),
     }
-    if same(name, b"set_pan") {
-        return pan_line(line, at);
-    }
-    if same(name, b"set_address_long") {
-        return address_long_line(line, at, bytes);
-    }
-    if same(name, b"set_tx_power") {
-        return power_line(line, at);
-    }
-    if same(name, b"set_channel") {
-        return channel_line(line, at);
-    }
-    listener(line, name, bytes)
 }
 
 // The lines that say whether a listener is there.
-fn listener(line: &[u8], name: &[u8], bytes: &mut [u8]) -> Line
-    ensures { Reads (form_of from_listeners name.now) (words_from line.now (length name.now)) bytes.old
-        bytes.new result }
+#[tactic(auto, unfolding(crate::specs::Parse::form_of))]
+fn listener(name: &str, words: Words, bytes: &mut [u8]) -> Result<Line, Malformed>
+    ensures read { result ≡ read_as (form_of from_listeners name.now) (length bytes.old) words.entry }
+    ensures laid { OnOk result (bytes.new ≡ sets bytes.old 0 (named (form_of from_listeners name.now) words.entry)) }
 {
-    let at = name.len();
-    if same(name, b"set_power_client") {
-        return flag(
-            line,
-            at,
-            Line::SetPowerClient(true),
-            Line::SetPowerClient(false),
-        );
+    match name {
+        "set_power_client" => Ok(Line::SetPowerClient(words.flag()?)),
+        "set_transmit_client" => Ok(Line::SetTransmitClient(words.flag()?)),
+        "set_receive_client" => Ok(Line::SetReceiveClient(words.flag()?)),
+        "set_config_client" => Ok(Line::SetConfigClient(words.flag()?)),
+        _ => query(name, words, bytes),
     }
-    if same(name, b"set_transmit_client") {
-        return flag(
-            line,
-            at,
-            Line::SetTransmitClient(true),
-            Line::SetTransmitClient(false),
-        );
-    }
-    if same(name, b"set_receive_client") {
-        return flag(
-            line,
-            at,
-            Line::SetReceiveClient(true),
-            Line::SetReceiveClient(false),
-        );
-    }
-    if same(name, b"set_config_client") {
-        return flag(
-            line,
-            at,
-            Line::SetConfigClient(true),
-            Line::SetConfigClient(false),
-        );
-    }
-    query(line, name, bytes)
 }
 
 // The calls that return a value, and `initialize`.
-fn query(line: &[u8], name: &[u8], bytes: &mut [u8]) -> Line
-    ensures { Reads (form_of from_queries name.now) (words_from line.now (length name.now)) bytes.old
-        bytes.new result }
+#[tactic(auto, unfolding(crate::specs::Parse::form_of))]
+fn query(name: &str, words: Words, bytes: &mut [u8]) -> Result<Line, Malformed>
+    ensures read { result ≡ read_as (form_of from_queries name.now) (length bytes.old) words.entry }
+    ensures laid { OnOk result (bytes.new ≡ sets bytes.old 0 (named (form_of from_queries name.now) words.entry)) }
 {
-    let at = name.len();
-    if same(name, b"initialize") {
-        return plain(line, at, Line::Initialize);
+    match name {
+        "initialize" => plain(words, Line::Initialize),
+        "is_on" => plain(words, Line::IsOn),
+        "busy" => plain(words, Line::Busy),
+        "get_address" => plain(words, Line::GetAddress),
+        "get_address_long" => plain(words, Line::GetAddressLong),
+        "get_pan" => plain(words, Line::GetPan),
+        "get_tx_power" => plain(words, Line::GetTxPower),
+        "get_channel" => plain(words, Line::GetChannel),
+        _ => around_calls(name, words, bytes),
     }
-    if same(name, b"is_on") {
-        return plain(line, at, Line::IsOn);
-    }
-    if same(name, b"busy") {
-        return plain(line, at, Line::Busy);
-    }
-    if same(name, b"get_address") {
-        return plain(line, at, Line::GetAddress);
-    }
-    if same(name, b"get_address_long") {
-        return plain(line, at, Line::GetAddressLong);
-    }
-    if same(name, b"get_pan") {
-        return plain(line, at, Line::GetPan);
-    }
-    if same(name, b"get_tx_power") {
-        return plain(line, at, Line::GetTxPower);
-    }
-    if same(name, b"get_channel") {
-        return plain(line, at, Line::GetChannel);
-    }
-    around_calls(line, name, bytes)
 }
 
 // The lines that are not calls.
-fn around_calls(line: &[u8], name: &[u8], bytes: &mut [u8]) -> Line
-    ensures { Reads (form_of around_rows name.now) (words_from line.now (length name.now)) bytes.old
-        bytes.new result }
+#[tactic(auto, using(crate::proofs::ArgumentLaws::number_laws), unfolding(crate::specs::Parse::form_of))]
+fn around_calls(name: &str, words: Words, bytes: &mut [u8]) -> Result<Line, Malformed>
+    ensures read { result ≡ read_as (form_of around_rows name.now) (length bytes.old) words.entry }
+    ensures laid { OnOk result (bytes.new ≡ sets bytes.old 0 (named (form_of around_rows name.now) words.entry)) }
 {
-    let at = name.len();
-    if same(name, b"pool") {
-        return pool_line(line, at, bytes);
+    match name {
+        "pool" => pool_line(words, bytes),
+        "pool_length" => Ok(Line::PoolLength(words.last_number(AREA)? as usize)),
+        "mark" => plain(words, Line::Mark),
+        "back" => plain(words, Line::Back),
+        _ => Err(Malformed),
     }
-    if same(name, b"pool_length") {
-        return pool_length_line(line, at);
-    }
-    if same(name, b"mark") {
-        return plain(line, at, Line::Mark);
-    }
-    if same(name, b"back") {
-        return plain(line, at, Line::Back);
-    }
-    Line::Malformed
 }

@@ -1,133 +1,149 @@
-// The output lines of one call: its place, answer and states; its transfer; its actions; what it returns.
-use crate::print::{
-    byte_field, byte_fields, decimal, field, flag_field, line_end, signed_field, text,
-};
-use rf233::action::{Action, Actions};
+// What a call yields, as values that print themselves: its place, answer and states; its transfer; an action; what it returns. Each is a
+// line without its line feed.
+ghost use Rattle.std.specs.Prelude.{◌≡◌, Some};
+ghost use Rattle.script.specs.Report.{action_text, fields_text, flag_text, head_text, sent_bytes, transfer_text, value_text};
+
+use rf233::action::Action;
+use rf233::answer::Answer;
+use rf233::state::InternalState;
 use rf233::transfer::Transfer;
+use std::fmt;
 
-// `PLACE ANSWER FROM TO`
-pub fn head(out: &mut [u8], at: usize, place: u64, answer: u8, from: u8, to: u8) -> usize {
-    let a = decimal(out, at, place);
-    let b = byte_field(out, a, answer);
-    let c = byte_field(out, b, from);
-    let d = byte_field(out, c, to);
-    line_end(out, d)
-}
+// A flag as the lines have it: 1 or 0.
+#[derive(Clone, Copy)]
+pub struct Flag(pub bool);
 
-// The start of a transfer's line: its kind, and the lengths of its two buffers.
-fn kind_and_lengths(out: &mut [u8], at: usize, t: Transfer) -> usize {
-    let a = text(out, at, b"transfer");
-    let b = byte_field(out, a, t.kind);
-    let c = field(out, b, t.write_len as u64);
-    field(out, c, t.read_len as u64)
-}
+impl fmt::Display for Flag {
+    ghost output = { λ flag. Some (flag_text flag.0) };
 
-// `transfer KIND WRITE READ BYTE...`, with the bytes that the pool has in the buffer sent from.
-pub fn transfer(out: &mut [u8], at: usize, t: Transfer, pool: &[u8]) -> usize {
-    if t.kind == 0 {
-        return at;
-    }
-    let a = kind_and_lengths(out, at, t);
-    let start = t.write as usize * 160;
-    let end = start + t.write_len as usize;
-    if pool.len() < end {
-        return line_end(out, a);
-    }
-    let b = byte_fields(out, a, &pool[start..end]);
-    line_end(out, b)
-}
-
-// `power ON`, the notice to the power listener.
-fn power(out: &mut [u8], at: usize, on: bool) -> usize {
-    let a = text(out, at, b"power");
-    let b = flag_field(out, a, on);
-    line_end(out, b)
-}
-
-// `sent BUFFER ACK FAIL`, the notice to the transmit listener.
-fn sent(out: &mut [u8], at: usize, buffer: u8, ack: bool, fail: bool) -> usize {
-    let a = text(out, at, b"sent");
-    let b = byte_field(out, a, buffer);
-    let c = flag_field(out, b, ack);
-    let d = flag_field(out, c, fail);
-    line_end(out, d)
-}
-
-// `received BUFFER LENGTH CRC`, the notice to the receive listener.
-fn received(out: &mut [u8], at: usize, buffer: u8, length: u8, crc: bool) -> usize {
-    let a = text(out, at, b"received");
-    let b = byte_field(out, a, buffer);
-    let c = byte_field(out, b, length);
-    let d = flag_field(out, c, crc);
-    line_end(out, d)
-}
-
-// A line of a word and a number.
-fn word_and_number(out: &mut [u8], at: usize, word: &[u8], number: u64) -> usize {
-    let a = text(out, at, word);
-    let b = field(out, a, number);
-    line_end(out, b)
-}
-
-// The line of an action; `Nothing` has none.
-pub fn action(out: &mut [u8], at: usize, a: Action) -> usize {
-    match a {
-        Action::Nothing => at,
-        Action::Power(on) => power(out, at, on),
-        Action::Sent(buffer, ack, fail) => sent(out, at, buffer, ack, fail),
-        Action::Received(buffer, length, crc) => received(out, at, buffer, length, crc),
-        Action::ConfigDone => text(out, at, b"config_done\n"),
-        Action::Dropped(buffer) => word_and_number(out, at, b"dropped", buffer as u64),
-        Action::IrqMakeInput => text(out, at, b"irq make_input\n"),
-        Action::IrqClear => text(out, at, b"irq clear\n"),
-        Action::IrqSetFloatingState => text(out, at, b"irq set_floating_state\n"),
-        Action::IrqEnableInterrupts => text(out, at, b"irq enable_interrupts\n"),
-        Action::IrqDisableInterrupts => text(out, at, b"irq disable_interrupts\n"),
-        Action::SleepMakeOutput => text(out, at, b"sleep make_output\n"),
-        Action::SleepSet => text(out, at, b"sleep set\n"),
-        Action::SleepClear => text(out, at, b"sleep clear\n"),
-        Action::ResetMakeOutput => text(out, at, b"reset make_output\n"),
-        Action::ResetClear(count) => word_and_number(out, at, b"reset clear", count as u64),
-        Action::ResetSet => text(out, at, b"reset set\n"),
+    fn fmt<W: fmt::Write>(&self, f: &mut fmt::Formatter<W>) -> fmt::Result {
+        f.write_str(if self.0 { "1" } else { "0" })
     }
 }
 
-// The lines of a call's actions, in order.
-pub fn actions(out: &mut [u8], at: usize, list: Actions) -> usize {
-    let items = list.items;
-    let mut end = at;
-    let mut i = 0;
-    while i < 6 {
-        let item = items[i];
-        let a = item.action;
-        end = action(out, end, a);
-        i += 1;
+// Numbers, with a space before each.
+#[derive(Clone, Copy)]
+pub struct Fields<'a>(pub &'a [u8]);
+
+impl fmt::Display for Fields<'_> {
+    ghost output = { λ fields. Some (fields_text fields.0.now) };
+
+    fn fmt<W: fmt::Write>(&self, f: &mut fmt::Formatter<W>) -> fmt::Result {
+        for number in self.0 {
+            write!(f, " {number}")?;
+        }
+        Ok(())
     }
-    end
 }
 
-// `value N` of a number, of a bool, of a power, of eight bytes.
-pub fn number_value(out: &mut [u8], at: usize, value: u64) -> usize {
-    word_and_number(out, at, b"value", value)
+// `PLACE ANSWER FROM TO`: a call's place in the script, its answer, and the states before and after.
+#[derive(Clone, Copy)]
+pub struct Head {
+    pub place: u64,
+    pub answer: Answer,
+    pub from: InternalState,
+    pub to: InternalState,
 }
 
-// `value N` of a bool, 1 or 0.
-pub fn flag_value(out: &mut [u8], at: usize, value: bool) -> usize {
-    let a = text(out, at, b"value");
-    let b = flag_field(out, a, value);
-    line_end(out, b)
+impl fmt::Display for Head {
+    ghost output = { λ head. Some (head_text head) };
+
+    fn fmt<W: fmt::Write>(&self, f: &mut fmt::Formatter<W>) -> fmt::Result {
+        let answer = u8::from(self.answer);
+        let from = u8::from(self.from);
+        let to = u8::from(self.to);
+        write!(f, "{} {answer} {from} {to}", self.place)
+    }
 }
 
-// `value N` of a power, which may be negative.
-pub fn signed_value(out: &mut [u8], at: usize, value: i8) -> usize {
-    let a = text(out, at, b"value");
-    let b = signed_field(out, a, value);
-    line_end(out, b)
+// `transfer KIND WRITE READ BYTE...`: a transfer's kind, the lengths of its two buffers, and the bytes that the pool has in the buffer sent
+// from.
+#[derive(Clone, Copy)]
+pub struct Started<'a> {
+    pub transfer: Transfer,
+    pub pool: &'a [u8],
 }
 
-// `value BYTE...` of the bytes, in order.
-pub fn bytes_value(out: &mut [u8], at: usize, bytes: &[u8]) -> usize {
-    let a = text(out, at, b"value");
-    let b = byte_fields(out, a, bytes);
-    line_end(out, b)
+impl<'a> Started<'a> {
+    // The bytes sent; none where the pool ends before the last of them.
+    fn sent(&self) -> &'a [u8]
+        ensures { result.now ≡ sent_bytes self.now.transfer self.now.pool.now }
+    {
+        let start = usize::from(self.transfer.write) * 160;
+        let end = start + usize::from(self.transfer.write_len);
+        let sent = self.pool.get(start..end);
+        sent.unwrap_or(&[])
+    }
+}
+
+impl fmt::Display for Started<'_> {
+    ghost output = { λ started. Some (transfer_text started.transfer started.pool.now) };
+
+    fn fmt<W: fmt::Write>(&self, f: &mut fmt::Formatter<W>) -> fmt::Result {
+        let t = self.transfer;
+        write!(
+            f,
+            "transfer {} {} {}{}",
+            u8::from(t.kind),
+            t.write_len,
+            t.read_len,
+            Fields(self.sent())
+        )
+    }
+}
+
+// The line of an action.
+#[derive(Clone, Copy)]
+pub struct Act(pub Action);
+
+impl fmt::Display for Act {
+    ghost output = { λ act. Some (action_text act.0) };
+
+    fn fmt<W: fmt::Write>(&self, f: &mut fmt::Formatter<W>) -> fmt::Result {
+        match self.0 {
+            Action::Nothing => Ok(()),
+            Action::Power(on) => write!(f, "power {}", Flag(on)),
+            Action::Sent(buffer, ack, fail) => {
+                write!(f, "sent {buffer} {} {}", Flag(ack), Flag(fail))
+            }
+            Action::Received(buffer, length, crc) => {
+                write!(f, "received {buffer} {length} {}", Flag(crc))
+            }
+            Action::ConfigDone => f.write_str("config_done"),
+            Action::Dropped(buffer) => write!(f, "dropped {buffer}"),
+            Action::IrqMakeInput => f.write_str("irq make_input"),
+            Action::IrqClear => f.write_str("irq clear"),
+            Action::IrqSetFloatingState => f.write_str("irq set_floating_state"),
+            Action::IrqEnableInterrupts => f.write_str("irq enable_interrupts"),
+            Action::IrqDisableInterrupts => f.write_str("irq disable_interrupts"),
+            Action::SleepMakeOutput => f.write_str("sleep make_output"),
+            Action::SleepSet => f.write_str("sleep set"),
+            Action::SleepClear => f.write_str("sleep clear"),
+            Action::ResetMakeOutput => f.write_str("reset make_output"),
+            Action::ResetClear(count) => write!(f, "reset clear {count}"),
+            Action::ResetSet => f.write_str("reset set"),
+        }
+    }
+}
+
+// `value N...`: what a call returns, of those that return a value.
+#[derive(Clone, Copy)]
+pub enum Value {
+    Number(u16),
+    Flag(bool),
+    Power(i8),
+    Address([u8; 8]),
+}
+
+impl fmt::Display for Value {
+    ghost output = { λ value. Some (value_text value) };
+
+    fn fmt<W: fmt::Write>(&self, f: &mut fmt::Formatter<W>) -> fmt::Result {
+        match self {
+            Value::Number(number) => write!(f, "value {number}"),
+            Value::Flag(flag) => write!(f, "value {}", Flag(*flag)),
+            Value::Power(power) => write!(f, "value {power}"),
+            Value::Address(bytes) => write!(f, "value{}", Fields(bytes)),
+        }
+    }
 }

@@ -1,135 +1,142 @@
-// The words of a line: names, and decimal numbers in their ranges. A second space makes an empty word, which nothing accepts.
+// The words of a line, separated by one space each, and the decimal numbers that they say. A second space makes an empty word, which
+// nothing accepts.
+ghost use Rattle.std.specs.Prelude.{◌≡◌, ◌==◌, ◌≤◌, ◌↔◌, ℕ, List, [], ◌∷◌, position, IfOk, IsOk, IfSome, MatchResult, length, ◌≢◌};
+ghost use Rattle.script.specs.Decimal.{decimal_of};
+ghost use Rattle.script.specs.Words.{words_of, others, number_in, next_number, last_number, last_flag};
+ghost use Rattle.script.specs.Left.{words_left};
+ghost use Rattle.std.specs.Iterator.{YieldsFirstRef, item_count};
 
-ghost use Rattle.std.specs.Prelude.{◌≡◌, ◌≤◌, ◌↔◌, IsTrue};
-ghost use Rattle.script.specs.Decimal.{no_decimal, decimal_of};
-ghost use Rattle.script.specs.Words.{word_end, no_word, number_at, last_at};
+use crate::line::Malformed;
+use std::marker::Model;
 
-// The same bytes.
-pub fn same(a: &[u8], b: &[u8]) -> bool
-    ensures { IsTrue result ↔ a.now ≡ b.now }
-{
-    a == b
+// The words of a line that are still to be read: none, or those of what stands behind the last space that was passed. The library's `split`
+// gives the same pieces, but its contract says of a single one only what its closure does.
+#[derive(Drop)]
+pub struct Words<'a> {
+    left: Option<&'a [u8]>,
 }
 
-// A number, or none where `good` is false.
-#[derive(Clone, Copy)]
-pub struct Decimal {
-    pub good: bool,
-    pub value: u64,
+impl<'a> Model for Words<'a> {
+    ghost Value = { List (List ℕ) };
+
+    ghost view = { λ w. words_left w.left };
 }
 
-// A number read from a line, and the place where its word ends.
-#[derive(Clone, Copy)]
-pub struct Word {
-    pub good: bool,
-    pub value: u64,
-    pub end: usize,
-}
+impl<'a> Words<'a> {
+    // All words of a line.
+    pub fn of(line: &'a [u8]) -> Self
+        ensures { result ≡ words_of line.now }
+    {
+        Words { left: Some(line) }
+    }
 
-// Where the word that begins at `from` ends: at the next space, or at the end of the line.
-#[tactic(auto, using(crate::proofs::WordLaws::ends_here, crate::proofs::WordLaws::goes_on, crate::proofs::WordLaws::ends_last))]
-pub fn word_end(line: &[u8], from: usize) -> usize
-    ensures { result ≡ word_end line.now from }
-{
-    let mut i = from;
-    while i < line.len() {
-        if line[i] == b' ' {
-            return i;
+    // The next word, a number of at most `greatest`.
+    #[tactic(auto, unfolding(crate::specs::Words::next_number))]
+    pub fn number(&mut self, greatest: u64) -> Result<u64, Malformed>
+        ensures number { result ≡ next_number greatest self.old }
+        ensures within { IfOk result (λ value. value ≤ greatest) }
+        ensures others { self.new ≡ others self.old }
+    {
+        match self.next() {
+            Some(word) => number_in(word, greatest).ok_or(Malformed),
+            None => Err(Malformed),
         }
-        i += 1;
     }
-    i
-}
 
-// No number: `good` is false.
-fn no_decimal() -> Decimal
-    ensures { result ≡ no_decimal }
-{
-    Decimal {
-        good: false,
-        value: 0,
+    // No word is left.
+    pub fn end(mut self) -> Result<(), Malformed>
+        ensures { IsOk result ↔ (self.entry ≡ []) }
+    {
+        match self.next() {
+            Some(_) => Err(Malformed),
+            None => Ok(()),
+        }
+    }
+
+    // The only word that is left.
+    pub fn only(mut self) -> Result<&'a [u8], Malformed>
+        ensures { MatchResult result (λ word. self.entry ≡ word.now ∷ []) (λ _. length self.entry ≢ 1) }
+    {
+        let word = self.next().ok_or(Malformed)?;
+        self.end()?;
+        Ok(word)
+    }
+
+    // The same as `number`, where it is the last word.
+    #[tactic(auto, unfolding(crate::specs::Words::next_number, crate::specs::Words::last_number))]
+    pub fn last_number(mut self, greatest: u64) -> Result<u64, Malformed>
+        ensures number { result ≡ last_number greatest self.entry }
+        ensures within { IfOk result (λ value. value ≤ greatest) }
+    {
+        let value = self.number(greatest)?;
+        self.end()?;
+        Ok(value)
+    }
+
+    // A 1 or a 0, where it is the last word.
+    #[tactic(auto, unfolding(crate::specs::Words::last_flag))]
+    pub fn flag(self) -> Result<bool, Malformed>
+        ensures { result ≡ last_flag self.entry }
+    {
+        Ok(self.last_number(1)? == 1)
     }
 }
 
-// A byte as a number of 64 bits.
-fn wide(byte: u8) -> u64
-    ensures { result ≡ byte }
+// The place of a text's first space.
+fn first_space(text: &[u8]) -> Option<usize>
+    ensures { result ≡ position (λ b. b == 32) text.now }
 {
-    byte as u64
+    text.iter().position(|b| *b == b' ')
 }
 
-// Decimal digits, one or more, that say a number below 2^64.
-pub fn digits(word: &[u8]) -> Decimal
+// A text up to its first space, and what stands behind that space, where there is one.
+#[tactic(auto, using(crate::proofs::WordLaws::cut_laws))]
+fn cut(text: &[u8]) -> (&[u8], Option<&[u8]>)
+    ensures { words_of text.now ≡ result.0.now ∷ words_left result.1 }
+{
+    match first_space(text) {
+        Some(end) => (&text[..end], Some(&text[end + 1..])),
+        None => (text, None),
+    }
+}
+
+impl<'a> Iterator for Words<'a> {
+    type Item = &'a [u8];
+
+    ghost next_gives = { YieldsFirstRef (λ w. w) };
+
+    ghost remaining = { item_count (λ w. w) };
+
+    fn next(&mut self) -> Option<&'a [u8]> {
+        let (word, left) = cut(self.left?);
+        self.left = left;
+        Some(word)
+    }
+}
+
+// Decimal digits, one or more, that say a number below 2^64. (The library's `parse` takes a `+` before them.)
+#[tactic(auto, using(crate::proofs::Digits::digit_laws))]
+pub fn digits(word: &[u8]) -> Option<u64>
     ensures { result ≡ decimal_of word.now }
 {
-    if word.len() == 0 {
-        return no_decimal();
+    if word.is_empty() {
+        return None;
     }
     let mut value: u64 = 0;
-    let mut i = 0;
-    while i < word.len() {
-        let byte = wide(word[i]);
-        if byte < 48 {
-            return no_decimal();
+    for byte in word {
+        if !byte.is_ascii_digit() {
+            return None;
         }
-        if 57 < byte {
-            return no_decimal();
-        }
-        let digit = byte - 48;
-        if (18446744073709551615 - digit) / 10 < value {
-            return no_decimal();
-        }
-        value = value * 10 + digit;
-        i += 1;
+        value = value.checked_mul(10)?.checked_add(u64::from(*byte - b'0'))?;
     }
-    Decimal {
-        good: true,
-        value: value,
-    }
+    Some(value)
 }
 
-// No number: what is left of the line is passed over.
-fn no_word(line: &[u8]) -> Word
-    ensures { result ≡ no_word line.now }
+// The number that a word says, where it is at most `greatest`.
+#[tactic(auto, unfolding(crate::specs::Words::number_in))]
+pub fn number_in(word: &[u8], greatest: u64) -> Option<u64>
+    ensures number { result ≡ number_in greatest word.now }
+    ensures within { IfSome result (λ value. value ≤ greatest) }
 {
-    Word {
-        good: false,
-        value: 0,
-        end: line.len(),
-    }
-}
-
-// The next word of the line after place `at`, a number of at most `greatest`.
-#[tactic(auto, using(crate::proofs::WordLaws::ends_within, crate::proofs::WordLaws::begins_within, crate::proofs::WordLaws::none_past, crate::proofs::WordLaws::taken, crate::proofs::WordLaws::too_large, crate::proofs::WordLaws::no_number))]
-pub fn number(line: &[u8], at: usize, greatest: u64) -> Word
-    ensures { (result ≡ number_at line.now at greatest) × (result.value ≤ greatest) }
-{
-    if line.len() <= at {
-        return no_word(line);
-    }
-    let start = at + 1;
-    let end = word_end(line, start);
-    let d = digits(&line[start..end]);
-    if d.good {
-        if d.value <= greatest {
-            return Word {
-                good: true,
-                value: d.value,
-                end: end,
-            };
-        }
-    }
-    no_word(line)
-}
-
-// The same, where it is the line's last word.
-#[tactic(auto, using(crate::proofs::WordLaws::is_last, crate::proofs::WordLaws::not_last))]
-pub fn last_number(line: &[u8], at: usize, greatest: u64) -> Word
-    ensures { (result ≡ last_at line.now at greatest) × (result.value ≤ greatest) }
-{
-    let w = number(line, at, greatest);
-    if w.end == line.len() {
-        return w;
-    }
-    no_word(line)
+    digits(word).filter(|value| *value <= greatest)
 }

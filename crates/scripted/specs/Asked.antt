@@ -1,6 +1,6 @@
 -- What a line of a script asks for: one of the calls that the claims of custody and of traces speak of, a new driver, or neither. And what
 -- is then done.
-use Rattle.std.specs.Prelude.{ℕ, List, [], ◌∷◌, get_or, take}
+use Rattle.std.specs.Prelude.{ℕ, List, [], take}
 use Rattle.custody.specs.Claim.{Call, made, with_pool}
 use Rattle.custody.specs.Claim.Call.{
   start,
@@ -21,9 +21,9 @@ use Rattle.custody.specs.Claim.Call.{
 }
 use Rattle.rf233.specs.Action.{actions}
 use Rattle.rf233.specs.Create.{new_call}
-use Rattle.rf233.specs.Driver.Client.{cfg_client, power_client, rx_client, tx_client}
 use Rattle.rf233.specs.Guard.{Called}
 use Rattle.rf233.specs.Step.{quiet}
+use Rattle.rf233.specs.declared.driver.Client.TheVariants as listeners
 use Rattle.rf233.specs.declared.driver.Driver.{Driver}
 use Rattle.script.specs.declared.line.Line.{Line}
 use Rattle.script.specs.declared.line.Line.TheVariants as line
@@ -34,16 +34,9 @@ pub data Asked : Type 0 where
   makes : ℕ → ℕ → Asked
   nothing : Asked
 
--- the first eight bytes; where there are fewer, 0 stands for the byte
-abbrev pub eight_of : List ℕ → List ℕ
-eight_of xs =
-    get_or xs 0 0 ∷ get_or xs 1 0 ∷ get_or xs 2 0 ∷ get_or xs 3 0 ∷ get_or xs 4 0 ∷ get_or xs 5 0 ∷ get_or xs 6 0 ∷ get_or xs 7 0 ∷ []
-
 -- what a line asks for, where the bytes that it names stand first among xs. A completion brings as many of them as the line counts; all,
 -- where there are fewer
 unfoldable pub asked : Line → List ℕ → Asked
-asked line.Malformed xs = nothing
-asked line.Passed xs = nothing
 asked (line.New l c) xs = makes l c
 asked line.Start xs = calls start
 asked line.Stop xs = calls stop
@@ -55,13 +48,13 @@ asked (line.ReadWriteDone n) xs = calls (complete (take n xs))
 asked (line.Reset v) xs = calls (reset v)
 asked (line.SetAddress a) xs = calls (address a)
 asked (line.SetPan p) xs = calls (pan p)
-asked line.SetAddressLong xs = calls (address_long (eight_of xs))
+asked (line.SetAddressLong l) xs = calls (address_long l)
 asked (line.SetTxPower t) xs = calls (power t)
 asked (line.SetChannel c) xs = calls (channel c)
-asked (line.SetPowerClient v) xs = calls (listener power_client v)
-asked (line.SetTransmitClient v) xs = calls (listener tx_client v)
-asked (line.SetReceiveClient v) xs = calls (listener rx_client v)
-asked (line.SetConfigClient v) xs = calls (listener cfg_client v)
+asked (line.SetPowerClient v) xs = calls (listener listeners.Power v)
+asked (line.SetTransmitClient v) xs = calls (listener listeners.Transmit v)
+asked (line.SetReceiveClient v) xs = calls (listener listeners.Receive v)
+asked (line.SetConfigClient v) xs = calls (listener listeners.Config v)
 asked line.Initialize xs = calls query
 asked line.IsOn xs = calls query
 asked line.Busy xs = calls query

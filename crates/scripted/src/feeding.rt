@@ -11,7 +11,7 @@ use script::line::Line;
 fn in_byte(buffer: u64) -> u8
     ensures { result ≡ in_byte buffer }
 {
-    if buffer < 256 { buffer as u8 } else { 255 }
+    u8::try_from(buffer).unwrap_or(255)
 }
 
 // What the book is fed, whatever bytes the line names.
@@ -23,34 +23,6 @@ pub fn fed(line: Line) -> Fed
         Line::Transmit(buffer, _, _) => Fed::LendsTransmit(in_byte(buffer)),
         Line::SetReceiveBuffer(buffer, _) => Fed::LendsReceive(in_byte(buffer)),
         Line::ReadWriteDone(_) => Fed::Completes,
-        Line::New(_, _) => Fed::Other,
-        Line::Start => Fed::Other,
-        Line::Stop => Fed::Other,
-        Line::ConfigCommit => Fed::Other,
-        Line::Fired => Fed::Other,
-        Line::Reset(_) => Fed::Other,
-        Line::SetAddress(_) => Fed::Other,
-        Line::SetPan(_) => Fed::Other,
-        Line::SetAddressLong => Fed::Other,
-        Line::SetTxPower(_) => Fed::Other,
-        Line::SetChannel(_) => Fed::Other,
-        Line::SetPowerClient(_) => Fed::Other,
-        Line::SetTransmitClient(_) => Fed::Other,
-        Line::SetReceiveClient(_) => Fed::Other,
-        Line::SetConfigClient(_) => Fed::Other,
-        Line::Initialize => Fed::Other,
-        Line::IsOn => Fed::Other,
-        Line::Busy => Fed::Other,
-        Line::GetAddress => Fed::Other,
-        Line::GetAddressLong => Fed::Other,
-        Line::GetPan => Fed::Other,
-        Line::GetTxPower => Fed::Other,
-        Line::GetChannel => Fed::Other,
-        Line::Malformed => Fed::Other,
-        Line::Passed => Fed::Other,
-        Line::Pool(_, _) => Fed::Other,
-        Line::PoolLength(_) => Fed::Other,
-        Line::Mark => Fed::Other,
-        Line::Back => Fed::Other,
+        _ => Fed::Other,
     }
 }
