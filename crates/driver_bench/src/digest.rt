@@ -1,59 +1,51 @@
 // A digest of what a driver sends and tells: each byte is mixed in by a rotation and an exclusive or.
-use rf233::action::{Action, Actions, Item};
+use rf233::action::{Action, Actions};
+use rf233::answer::Reply;
 use rf233::transfer::Transfer;
 
-// Of the bytes sent, and of the notices, apart: the order of the two within a step is left open.
-#[derive(Clone, Copy)]
+// Of the bytes sent, and of the notices, apart: the order of the two within a step is left open. Both are 0 before anything is mixed in.
+#[derive(Clone, Copy, Default)]
 pub struct Digest {
-    pub sent: u64,
-    pub told: u64,
+    sent: u64,
+    told: u64,
 }
 
-// The digest before anything is mixed in.
-pub fn no_digest() -> Digest {
-    Digest { sent: 0, told: 0 }
-}
+impl Digest {
+    // The two digests as one number, that of the notices shifted by one bit.
+    pub fn value(self) -> u64 {
+        self.sent ^ (self.told << 1)
+    }
 
-// The two digests as one number, that of the notices shifted by one bit.
-pub fn value(digest: Digest) -> u64 {
-    digest.sent ^ (digest.told << 1)
+    // The digest after a step: its transfer goes into `sent`, its notices go into `told`.
+    pub fn after(self, reply: Reply, pool: &[u8]) -> Digest {
+        Digest {
+            sent: reply
+                .transfer
+                .map_or(self.sent, |t| mix_transfer(self.sent, t, pool)),
+            told: mix_actions(self.told, reply.actions),
+        }
+    }
 }
 
 // One byte: the digest is rotated left by seven bits, and the byte goes in by an exclusive or.
 fn mix(d: u64, byte: u8) -> u64 {
-    ((d << 7) | (d >> 57)) ^ byte as u64
-}
-
-// Every byte of the slice, in order.
-fn mix_bytes(d: u64, part: &[u8]) -> u64 {
-    let mut mixed = d;
-    let mut i = 0;
-    while i < part.len() {
-        mixed = mix(mixed, part[i]);
-        i += 1;
-    }
-    mixed
+    d.rotate_left(7) ^ u64::from(byte)
 }
 
 // A flag, as the byte 1 or 0.
 fn mix_flag(d: u64, flag: bool) -> u64 {
-    if flag {
-        return mix(d, 1);
-    }
-    mix(d, 0)
+    mix(d, u8::from(flag))
 }
 
-// The read buffer's length and the bytes sent.
+// The read buffer's length and the bytes sent, where the pool has them.
 fn mix_transfer(d: u64, t: Transfer, pool: &[u8]) -> u64 {
-    if t.kind == 0 {
-        return d;
+    let start = usize::from(t.write) * 160;
+    match pool.get(start..start + usize::from(t.write_len)) {
+        Some(sent) => sent
+            .iter()
+            .fold(mix(d, (t.read_len % 256) as u8), |d, b| mix(d, *b)),
+        None => d,
     }
-    let start = t.write as usize * 160;
-    let end = start + t.write_len as usize;
-    if pool.len() < end {
-        return d;
-    }
-    mix_bytes(mix(d, (t.read_len % 256) as u8), &pool[start..end])
 }
 
 // A notice's number and its values; `Dropped` and what is asked of a pin are left out.
@@ -67,30 +59,11 @@ fn mix_action(d: u64, action: Action) -> u64 {
     }
 }
 
-// The action in an element of the list.
-fn mix_item(d: u64, item: Item) -> u64 {
-    let action = item.action;
-    mix_action(d, action)
-}
-
 // The actions up to their count, in order.
 fn mix_actions(d: u64, actions: Actions) -> u64 {
-    let items = actions.items;
-    let mut mixed = d;
-    let mut i: u8 = 0;
-    while i < 6 && i < actions.count {
-        mixed = mix_item(mixed, items[i as usize]);
-        i += 1;
-    }
-    mixed
-}
-
-// The digest after a step: its transfer goes into `sent`, its notices go into `told`.
-pub fn mixed(digest: Digest, t: Transfer, actions: Actions, pool: &[u8]) -> Digest {
-    let sent = mix_transfer(digest.sent, t, pool);
-    let told = mix_actions(digest.told, actions);
-    Digest {
-        sent: sent,
-        told: told,
-    }
+    actions
+        .items
+        .iter()
+        .take(usize::from(actions.count))
+        .fold(d, |d, action| mix_action(d, *action))
 }

@@ -2,27 +2,25 @@
 // leave, written to a writer.
 #![tactic(auto)]
 
-mod area;
+mod call;
 mod ending;
-mod perform;
+mod lines;
 mod run;
-mod stream;
+mod session;
+mod stop;
 mod tracing;
-mod value;
 
+use run::Run;
 use std::io;
 use std::io::{Read, Write};
+use stdio::streams::Input;
 
-// The text of a line, the bytes that it names, the area that the pool is a part of and the one that `mark` keeps, and what is read and
-// to be written.
+// Runs the whole script. The error of a read that failed comes after what was written.
 pub fn replay<R: Read, W: Write>(from: &mut R, to: &mut W, traced: bool) -> io::Result<()> {
-    let mut input = [0u8; 65536];
-    let mut text = [0u8; 1024];
-    let mut bytes = [0u8; 1024];
-    let mut area = [0u8; 4096];
-    let mut kept = [0u8; 4096];
-    let mut out = [0u8; 65536];
-    stream::run_script(
-        from, to, traced, &mut input, &mut text, &mut bytes, &mut area, &mut kept, &mut out,
-    )
+    let mut input = Input::new(from);
+    let mut run = Run::new(traced);
+    let stop = lines::read_all(&mut run, &mut input, to);
+    run.end(stop, to)?;
+    to.flush()?;
+    input.told()
 }

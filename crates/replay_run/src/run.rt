@@ -1,76 +1,68 @@
-// A run as a value: what a script has changed so far, but for the area's bytes.
-use custody::book::{Book, new_book};
-use rf233::create::new;
-use rf233::driver::Driver;
+// A run: what a script has changed so far, and its lines performed one after another.
+use crate::ending::ending;
+use crate::session::Session;
+use crate::stop::Stop;
+use crate::tracing::Trace;
+use script::line::Line;
+use script::parse::parse;
+use std::io;
+use std::io::Write;
 
-// How many bytes of the area the calls are lent at first.
-const POOL_LENGTH: usize = 3040;
-
-// What `mark` keeps beside the area.
-#[derive(Clone, Copy)]
-pub struct Session {
-    pub driver: Driver,
-    pub book: Book,
-    pub length: usize,
-}
-
-// Whether the run writes its trace in place of text; the number of the block that is being filled, and how many records it has.
-#[derive(Clone, Copy)]
-pub struct Trace {
-    pub wanted: bool,
-    pub number: u32,
-    pub records: u8,
-}
-
-// The session and the one to go back to; how many calls and lines there were; how much of the line is there, and how much of the output;
-// whether the run is over.
-#[derive(Clone, Copy)]
+// The session and the one to go back to; how many calls and lines there were; the trace, where it is written in place of text.
+#[derive(Drop)]
 pub struct Run {
     pub session: Session,
-    pub kept: Session,
+    kept: Session,
     pub calls: u64,
-    pub lines: u64,
-    pub filled: usize,
-    pub written: usize,
-    pub over: bool,
-    pub trace: Trace,
+    lines: u64,
+    pub trace: Option<Trace>,
 }
 
-// A new driver, with 129 bytes of spi_buf and channel 26, and a new book.
-fn first_session() -> Session {
-    let out = new(129, 26);
-    let driver = out.driver;
-    let book = new_book();
-    Session {
-        driver: driver,
-        book: book,
-        length: POOL_LENGTH,
+impl Run {
+    // The run before its first line; until a `mark`, `back` returns to its first session.
+    pub fn new(traced: bool) -> Run {
+        let session = Session::new();
+        Run {
+            session,
+            kept: session,
+            calls: 0,
+            lines: 0,
+            trace: traced.then(Trace::new),
+        }
     }
-}
 
-// The run before its first line; until a `mark`, `back` returns to its first session.
-pub fn first_run(traced: bool) -> Run {
-    let session = first_session();
-    let trace = Trace {
-        wanted: traced,
-        number: 0,
-        records: 0,
-    };
-    Run {
-        session: session,
-        kept: session,
-        calls: 0,
-        lines: 0,
-        filled: 0,
-        written: 0,
-        over: false,
-        trace: trace,
+    // A call with its output, or what stands around the calls, with the bytes that the line names. They go beside the line, since it holds no
+    // slice of them (`Line` says why).
+    fn perform<W: Write>(&mut self, line: Line, bytes: &[u8], to: &mut W) -> io::Result<()> {
+        match line {
+            Line::Pool(at, count) => self.session.store(at, bytes, count),
+            Line::PoolLength(length) => self.session.length = length,
+            Line::Mark => self.kept = self.session,
+            Line::Back => self.session = self.kept,
+            _ => return self.call(line, bytes, to),
+        }
+        Ok(())
     }
-}
 
-// The run with another session.
-pub fn with_session(run: Run, session: Session) -> Run {
-    let mut next = run;
-    next.session = session;
-    next
+    // Reads a line and performs it.
+    pub fn line<W: Write>(&mut self, words: &[u8], to: &mut W) -> Result<(), Stop> {
+        let mut bytes = [0u8; 1024];
+        if let Some(line) = parse(words, &mut bytes)? {
+            self.perform(line, &bytes, to)?;
+        }
+        self.lines = self.lines.wrapping_add(1);
+        Ok(())
+    }
+
+    // What is written last: a malformed line's number, or at the end of the input the book. A trace ends with the call before.
+    pub fn end<W: Write>(&mut self, stopped: Result<(), Stop>, to: &mut W) -> io::Result<()> {
+        match (stopped, &mut self.trace) {
+            (Err(Stop::Unwritten(e)), _) => Err(e),
+            (_, Some(trace)) => trace.end(to),
+            (Err(Stop::Malformed), None) => {
+                writeln!(to, "line {} malformed", self.lines.wrapping_add(1))
+            }
+            (Ok(()), None) => ending(&self.session, to),
+        }
+    }
 }

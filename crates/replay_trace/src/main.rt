@@ -4,8 +4,10 @@
 
 use replay_run::replay;
 use std::io;
+use std::io::BufWriter;
 
 // Answers the script on standard input with its trace.
 fn main(rt: HostRuntime) -> io::Result<()> {
-    replay(&mut rt.stdin(), &mut rt.stdout(), true)
+    let mut to = BufWriter::new(rt.alloc(), rt.stdout())?;
+    replay(&mut rt.stdin(), &mut to, true)
 }

@@ -3,19 +3,21 @@
 #![tactic(auto)]
 
 mod describe;
-mod stream;
+mod lines;
 
+use crate::lines::write_lines;
 use std::io;
-use stdio::streams::{told, write_first};
+use std::io::{Read, Write};
 
-// Reads the input, which is shorter than the buffer, and writes a line for each of its lines.
+// The most bytes that are read, and the most that are written.
+const MOST: usize = 65536;
+
+// Reads the input and writes a line for each of its lines. The error of a read that failed is told behind them.
 fn main(rt: HostRuntime) -> io::Result<()> {
-    let mut input = [0u8; 65536];
-    let mut bytes = [0u8; 1024];
-    let mut out = [0u8; 65536];
-    let mut failed = None;
-    let filled = stream::fill(&mut rt.stdin(), &mut failed, &mut input);
-    let end = stream::lines(&input, filled, &mut bytes, &mut out);
-    write_first(&mut rt.stdout(), &out, end)?;
-    told(failed)
+    let mut input = Vec::new(rt.alloc());
+    let read = rt.stdin().take(MOST as u64).read_to_end(&mut input);
+    let mut out = Vec::new(rt.alloc());
+    write_lines(&input, &mut out)?;
+    rt.stdout().write_all(&out[..out.len().min(MOST)])?;
+    read.map(|_| ())
 }

@@ -1,9 +1,12 @@
 // The lines of the list: the powers from -128 on, each with its setting.
-ghost use Rattle.std.specs.Prelude.{◌≡◌};
+ghost use Rattle.std.specs.Prelude.{◌≡◌, ℕ, ◌++◌, Some, codes, decimal};
+ghost use Rattle.std.specs.Fmt.{signed_decimal};
+ghost use Rattle.rf233.specs.Power.{power_at};
 ghost use Rattle.settings.specs.List.{entry_at};
 
 use rf233::power::power_to_setting;
-use script::print::{byte_field, line_end, signed};
+use std::io::Write;
+use std::{fmt, io};
 
 // A power, and the setting for it.
 #[derive(Clone, Copy)]
@@ -12,28 +15,30 @@ struct Entry {
     setting: u8,
 }
 
-// What line k has, counted from 0.
-fn entry_at(k: u8) -> Entry
-    ensures { result ≡ entry_at k }
-{
-    let power = (k as i16 - 128) as i8;
-    let setting = power_to_setting(power);
-    Entry { power, setting }
-}
-
-// Line k, laid out at a place of the buffer. The answer is the place after it.
-fn line(out: &mut [u8], at: usize, k: u8) -> usize {
-    let e = entry_at(k);
-    let power = signed(out, at, e.power);
-    let setting = byte_field(out, power, e.setting);
-    line_end(out, setting)
-}
-
-// All 256 lines. The answer is how many bytes they are.
-pub fn lines(out: &mut [u8]) -> usize {
-    let mut end = 0;
-    for k in 0..256u16 {
-        end = line(out, end, k as u8);
+impl Entry {
+    // The entry of a power: on the line that this power is for, it is what the line has.
+    fn new(power: i8) -> Self
+        ensures { (k : ℕ) → power ≡ power_at k → result ≡ entry_at k }
+    {
+        let setting = power_to_setting(power);
+        Entry { power, setting }
     }
-    end
+}
+
+impl fmt::Display for Entry {
+    ghost output = { λ e. Some (signed_decimal e.power ++ (codes " " ++ decimal e.setting)) };
+
+    fn fmt<W: fmt::Write>(&self, f: &mut fmt::Formatter<W>) -> fmt::Result {
+        let power = self.power;
+        let setting = self.setting;
+        write!(f, "{power} {setting}")
+    }
+}
+
+// All 256 lines.
+pub fn write_lines(to: &mut impl Write) -> io::Result<()> {
+    for power in i8::MIN..=i8::MAX {
+        writeln!(to, "{}", Entry::new(power))?;
+    }
+    Ok(())
 }

@@ -3,10 +3,9 @@
 
 mod list;
 
-use std::env::{Env, FillError};
 use std::io;
-use std::io::{Eprint, Stdout};
-use stdio::streams::write_first;
+use std::io::{BufWriter, Eprint, Write};
+use stdio::arguments::{Usage, none_asked};
 
 // Says on standard error how the program is called.
 fn usage(rt: &impl Eprint) -> io::Result<()> {
@@ -15,22 +14,16 @@ fn usage(rt: &impl Eprint) -> io::Result<()> {
     )
 }
 
-// Whether there is an argument.
-fn has_argument(rt: &impl Env) -> bool {
-    !matches!(rt.arg(1, &mut []), Err(FillError::NotPresent))
-}
-
 // Writes the list to standard output. Where that fails, `main` ends with the error, and standard error says why.
-fn write_list(stdout: &mut Stdout) -> io::Result<()> {
-    let mut out = [0u8; 4096];
-    let n = list::lines(&mut out);
-    write_first(stdout, &out, n)
+fn write_list<W: Write + Drop>(mut to: W) -> io::Result<()> {
+    list::write_lines(&mut to)?;
+    to.flush()
 }
 
 // Without an argument the list is written.
 fn main(rt: HostRuntime) -> io::Result<()> {
-    if has_argument(&rt) {
-        return usage(&rt);
+    match none_asked(&rt) {
+        Ok(()) => write_list(BufWriter::new(rt.alloc(), rt.stdout())?),
+        Err(Usage) => usage(&rt),
     }
-    write_list(&mut rt.stdout())
 }

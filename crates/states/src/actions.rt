@@ -1,108 +1,53 @@
-// A step's actions as a column: what it asks of the pins, and its notices with their values.
-use crate::columns::or_dash;
-use record_words::words::nth;
-use rf233::action::{Action, Actions};
-use script::print::{byte, decimal, text};
+// A step's actions as a column: what it asks of the pins, by pin and what is asked of it, and its notices with their values.
+use rf233::action::Action;
+use std::fmt;
 
-// The place of the action's name in the list of names.
-fn action_number(a: Action) -> u8 {
-    match a {
-        Action::Nothing => 0,
-        Action::Power(_) => 1,
-        Action::Sent(_, _, _) => 2,
-        Action::Received(_, _, _) => 3,
-        Action::ConfigDone => 4,
-        Action::Dropped(_) => 5,
-        Action::IrqMakeInput => 6,
-        Action::IrqClear => 7,
-        Action::IrqSetFloatingState => 8,
-        Action::IrqEnableInterrupts => 9,
-        Action::IrqDisableInterrupts => 10,
-        Action::SleepMakeOutput => 11,
-        Action::SleepSet => 12,
-        Action::SleepClear => 13,
-        Action::ResetMakeOutput => 14,
-        Action::ResetClear(_) => 15,
-        Action::ResetSet => 16,
+// An action as it is written, without its buffer.
+#[derive(Clone, Copy)]
+struct Shown(Action);
+
+impl fmt::Display for Shown {
+    fn fmt<W: fmt::Write>(&self, f: &mut fmt::Formatter<W>) -> fmt::Result {
+        match self.0 {
+            Action::Nothing => Ok(()),
+            Action::Power(true) => f.write_str("power(on)"),
+            Action::Power(false) => f.write_str("power(off)"),
+            Action::Sent(_, _, true) => f.write_str("sent(FAIL)"),
+            Action::Sent(_, true, false) => f.write_str("sent(ack)"),
+            Action::Sent(_, false, false) => f.write_str("sent(no ack)"),
+            Action::Received(_, length, true) => {
+                write!(f, "received(length {length}, crc valid)")
+            }
+            Action::Received(_, length, false) => {
+                write!(f, "received(length {length}, crc invalid)")
+            }
+            Action::ConfigDone => f.write_str("config_done"),
+            Action::Dropped(_) => f.write_str("dropped"),
+            Action::IrqMakeInput => f.write_str("irq.make_input"),
+            Action::IrqClear => f.write_str("irq.clear"),
+            Action::IrqSetFloatingState => f.write_str("irq.set_floating_state"),
+            Action::IrqEnableInterrupts => f.write_str("irq.enable_interrupts"),
+            Action::IrqDisableInterrupts => f.write_str("irq.disable_interrupts"),
+            Action::SleepMakeOutput => f.write_str("sleep.make_output"),
+            Action::SleepSet => f.write_str("sleep.set"),
+            Action::SleepClear => f.write_str("sleep.clear"),
+            Action::ResetMakeOutput => f.write_str("reset.make_output"),
+            Action::ResetClear(times) => write!(f, "reset.clear({times})"),
+            Action::ResetSet => f.write_str("reset.set"),
+        }
     }
 }
 
-// Name i of the list: notices by their names, the others by pin and what is asked of it.
-fn action_name(out: &mut [u8], at: usize, i: u8) -> usize {
-    nth(
-        out,
-        at,
-        b"- power sent received config_done dropped irq.make_input irq.clear irq.set_floating_state irq.enable_interrupts \
-          irq.disable_interrupts sleep.make_output sleep.set sleep.clear reset.make_output reset.clear reset.set",
-        i,
-    )
-}
+// A step's actions, in order, or a dash.
+#[derive(Clone, Copy)]
+pub struct ActionColumn(pub [Action; 6]);
 
-// A value in brackets.
-fn value(out: &mut [u8], at: usize, number: u64) -> usize {
-    let a = byte(out, at, b'(');
-    let b = decimal(out, a, number);
-    byte(out, b, b')')
-}
-
-// Whether the radio is on or off, in brackets.
-fn power_values(out: &mut [u8], at: usize, on: bool) -> usize {
-    if on {
-        return text(out, at, b"(on)");
+impl fmt::Display for ActionColumn {
+    fn fmt<W: fmt::Write>(&self, f: &mut fmt::Formatter<W>) -> fmt::Result {
+        if self.0.iter().all(|action| *action == Action::Nothing) {
+            return f.write_str("-");
+        }
+        let some = self.0.iter().filter(|action| **action != Action::Nothing);
+        f.write_joined(some.map(|action| Shown(*action)), " ")
     }
-    text(out, at, b"(off)")
-}
-
-// That the frame failed, or else whether it was acknowledged, in brackets.
-fn sent_values(out: &mut [u8], at: usize, ack: bool, fail: bool) -> usize {
-    if fail {
-        return text(out, at, b"(FAIL)");
-    }
-    if ack {
-        return text(out, at, b"(ack)");
-    }
-    text(out, at, b"(no ack)")
-}
-
-// The frame's length and whether its CRC was valid, in brackets.
-fn received_values(out: &mut [u8], at: usize, length: u8, crc: bool) -> usize {
-    let a = text(out, at, b"(length ");
-    let b = decimal(out, a, length as u64);
-    if crc {
-        return text(out, b, b", crc valid)");
-    }
-    text(out, b, b", crc invalid)")
-}
-
-// The values of an action, without its buffer.
-fn action_values(out: &mut [u8], at: usize, a: Action) -> usize {
-    match a {
-        Action::Power(on) => power_values(out, at, on),
-        Action::Sent(_, ack, fail) => sent_values(out, at, ack, fail),
-        Action::Received(_, length, crc) => received_values(out, at, length, crc),
-        Action::ResetClear(count) => value(out, at, count as u64),
-        _ => at,
-    }
-}
-
-// A space, the action's name and its values; nothing for no action.
-fn action(out: &mut [u8], at: usize, a: Action) -> usize {
-    let i = action_number(a);
-    if i == 0 {
-        return at;
-    }
-    let b = byte(out, at, b' ');
-    let c = action_name(out, b, i);
-    action_values(out, c, a)
-}
-
-// The actions of a step, in order.
-pub fn actions(out: &mut [u8], at: usize, list: Actions) -> usize {
-    let items = list.items;
-    let mut end = at;
-    for item in items {
-        let a = item.action;
-        end = action(out, end, a);
-    }
-    or_dash(out, at, end)
 }

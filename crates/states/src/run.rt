@@ -1,70 +1,29 @@
 // One step of the driver: a state in a situation goes through the call that the kernel or a client makes, over a pool of its own.
-use crate::setup::driver_in;
-use crate::situation::{AT_REST, length_byte, result_byte, status_byte};
+use crate::situation::{Call, Situation};
 use rf233::answer::Outcome;
-use rf233::config::{config_commit, reset, start, stop};
-use rf233::data::{set_receive_buffer, transmit};
 use rf233::driver::Driver;
-use rf233::kernel::{fire, read_write_done};
 
-// The pool's 3,040 bytes, all 0.
-fn new_pool() -> [u8; 3040] {
-    [0u8; 3040]
+// The status byte of no state.
+const NO_STATE: u8 = 0x1E;
+
+// A transfer is complete: these two bytes arrived. Byte 161 of the pool is byte 1 of buffer 1, the receive buffer.
+fn completed(driver: Driver, situation: &Situation, pool: &mut [u8; 3040]) -> Outcome {
+    let status = situation.status.map_or(NO_STATE, u8::from);
+    pool[161] = situation.length;
+    driver.read_write_done(&[status, situation.result], pool)
 }
 
-// Byte 161 is byte 1 of buffer 1, the receive buffer.
-fn completed(d: Driver, c: u8) -> Outcome {
-    let mut pool = new_pool();
-    pool[161] = length_byte(c);
-    let first = status_byte(c);
-    let second = result_byte(c);
-    let arrived = [first, second];
-    read_write_done(d, &arrived, &mut pool)
-}
-
-// The interrupt pin fires.
-fn fired(d: Driver) -> Outcome {
-    let mut pool = new_pool();
-    fire(d, &mut pool)
-}
-
-// A client calls `start`.
-fn started(d: Driver) -> Outcome {
-    let mut pool = new_pool();
-    start(d, &mut pool)
-}
-
-// A client calls `stop`.
-fn stopped(d: Driver) -> Outcome {
-    let mut pool = new_pool();
-    stop(d, &mut pool)
-}
-
-// A client calls `config_commit`.
-fn committed(d: Driver) -> Outcome {
-    let mut pool = new_pool();
-    config_commit(d, &mut pool)
-}
-
-// A frame of 20 bytes in buffer 0.
-fn transmitted(d: Driver) -> Outcome {
-    let mut pool = new_pool();
-    transmit(d, 0, 130, 20, &mut pool)
-}
-
-// What the step of state n in situation c yields: a completion below AT_REST, from there on a firing or a call.
-pub fn outcome_of(n: u8, c: u8) -> Outcome {
-    let d = driver_in(n, c);
-    if c < AT_REST {
-        return completed(d, c);
-    }
-    match c {
-        42 | 49 => fired(d),
-        43 | 50 => started(d),
-        44 | 51 => stopped(d),
-        45 | 52 => committed(d),
-        46 => transmitted(d),
-        47 => set_receive_buffer(d, 1, 130),
-        _ => reset(d, true),
+// What the step of this driver in the situation yields. A frame that is sent has 20 bytes in buffer 0.
+pub fn outcome_of(driver: Driver, situation: &Situation) -> Outcome {
+    let mut pool = [0u8; 3040];
+    match situation.call {
+        Call::Completion => completed(driver, situation, &mut pool),
+        Call::Firing => driver.fire(&mut pool),
+        Call::Start => driver.start(&mut pool),
+        Call::Stop => driver.stop(&mut pool),
+        Call::Commit => driver.config_commit(&mut pool),
+        Call::Transmit => driver.transmit(0, 130, 20, &mut pool),
+        Call::ReceiveBuffer => driver.set_receive_buffer(1, 130),
+        Call::Reset => driver.reset(true),
     }
 }

@@ -1,98 +1,73 @@
-// Which situations of a state are told apart: two outcomes are the same where their columns read the same.
-use crate::columns::{arrow, columns};
+// Which situations of a state are told apart, and what is said of those that are not.
+use crate::columns::{Columns, Step};
 use crate::setup::is_possible;
-use crate::situation::{COMBINED, NO_INTERRUPT, first_name, further_name};
+use crate::situation::{Kind, NO_INTERRUPT, Situation, differences, results, statuses};
+use rf233::state::InternalState;
+use std::alloc::{AllocError, Global};
 
 // The state that stands for every other one where states are compared.
-pub const ANY: u8 = 1;
+const ANY: InternalState = InternalState::START_PART_READ;
 
-// State n in situation c and state m in situation e have the same columns.
-fn same_columns(n: u8, c: u8, m: u8, e: u8) -> bool {
-    let mut a = [0u8; 256];
-    let mut b = [0u8; 256];
-    columns(&mut a, 0, n, c);
-    columns(&mut b, 0, m, e);
-    a == b
+// What a state's step did in a condition, what is compared of that, and the names of the condition and of the later ones in which it did
+// the same.
+#[derive(Drop)]
+pub struct Case<K> {
+    pub step: Step,
+    compared: K,
+    pub names: String,
 }
 
-// Situations c and e of state n lead to the same next state with the same transfer.
-fn same_arrow(n: u8, c: u8, e: u8) -> bool {
-    let mut a = [0u8; 256];
-    let mut b = [0u8; 256];
-    arrow(&mut a, 0, n, c);
-    arrow(&mut b, 0, n, e);
-    a == b
+impl<K> Case<K> {
+    // The names go on with a later condition's. The plain completion and a status with no name are listed without the others that do the same, and a condition
+    // that names two things is not listed.
+    fn add(&mut self, later: &Situation) -> Result<(), AllocError> {
+        let speaks = matches!(self.step.situation.kind, Kind::Plain | Kind::OtherStatus);
+        if speaks || later.kind == Kind::Two {
+            return Ok(());
+        }
+        write!(&mut self.names, ", {}", later.name)
+    }
 }
 
-// Situations c and e of state n have the same outcome: as an arrow of the graph, or in all columns.
-fn is_same(n: u8, c: u8, e: u8, as_arrow: bool) -> bool {
-    if as_arrow {
-        return same_arrow(n, c, e);
+// The cases of the state's completions: conditions belong to one case where `compared` gives the same of their columns.
+pub fn cases<K: PartialEq + Drop, F: Fn(Columns) -> K>(
+    alloc: Global,
+    state: InternalState,
+    compared: F,
+) -> Result<Vec<Case<K>>, AllocError>
+    requires { F.IsAlwaysCallable compared }
+{
+    let mut cases: Vec<Case<K>> = Vec::new(alloc);
+    for condition in statuses().into_iter().chain(results()).chain(differences()) {
+        let step = Step::of(state, condition);
+        let compared = compared(step.columns);
+        let place = cases.iter().position(|case| case.compared == compared);
+        match place {
+            Some(place) => cases[place].add(&condition)?,
+            None => cases.push(Case {
+                step,
+                compared,
+                names: condition.to_string(alloc)?,
+            })?,
+        }
     }
-    same_columns(n, c, n, e)
+    Ok(cases)
 }
 
-// Still no situation has the outcome of c: e has not either.
-fn still_first(first: bool, n: u8, c: u8, e: u8, as_arrow: bool) -> bool {
-    if !first {
-        return false;
-    }
-    !is_same(n, c, e, as_arrow)
+// What the situation does in most states, where it does something of its own there: else it is as if IRQ_STATUS had shown no interrupt.
+pub fn general(situation: Situation) -> Option<Step> {
+    let any = Step::of(ANY, situation);
+    let silent = Step::of(ANY, NO_INTERRUPT);
+    (any.columns != silent.columns).then_some(any)
 }
 
-// No situation before c has its outcome.
-pub fn is_first(n: u8, c: u8, as_arrow: bool) -> bool {
-    let mut first = true;
-    for e in 0..c {
-        first = still_first(first, n, c, e, as_arrow);
-    }
-    first
-}
-
-// The name of e, where it comes after c and has its outcome.
-fn further(out: &mut [u8], at: usize, n: u8, c: u8, e: u8, as_arrow: bool) -> usize {
-    if e <= c {
-        return at;
-    }
-    if is_same(n, c, e, as_arrow) {
-        return further_name(out, at, e);
-    }
-    at
-}
-
-// The names of the conditions after c with its outcome.
-fn further_names(out: &mut [u8], at: usize, n: u8, c: u8, as_arrow: bool) -> usize {
-    let mut end = at;
-    for e in 0..COMBINED {
-        end = further(out, end, n, c, e, as_arrow);
-    }
-    end
-}
-
-// The names of c and of the conditions with its outcome. The plain completion and a status with no name speak for all of theirs.
-pub fn conditions(out: &mut [u8], at: usize, n: u8, c: u8, as_arrow: bool) -> usize {
-    let a = first_name(out, at, c);
-    if c < 2 {
-        return a;
-    }
-    further_names(out, a, n, c, as_arrow)
-}
-
-// The situation does something of its own in most states: else it is as if IRQ_STATUS had shown no interrupt.
-pub fn is_general(c: u8) -> bool {
-    !same_columns(ANY, c, ANY, NO_INTERRUPT)
-}
-
-// The outcome of state n is not that of most states.
-pub fn is_exception(n: u8, c: u8) -> bool {
-    if n == ANY {
-        return !is_general(c) & !same_columns(n, c, n, NO_INTERRUPT);
-    }
-    if !is_possible(n, c) {
-        return false;
-    }
-    if is_general(c) {
-        return !same_columns(n, c, ANY, c);
-    }
-    !same_columns(n, c, n, NO_INTERRUPT)
+// The step of the state in the situation, where it is not that of most states.
+pub fn exception(state: InternalState, situation: Situation) -> Option<Step> {
+    let step = Step::of(state, situation);
+    let usual = match general(situation) {
+        Some(any) => any,
+        None => Step::of(state, NO_INTERRUPT),
+    };
+    let differs = is_possible(state, &situation) && step.columns != usual.columns;
+    differs.then_some(step)
 }

@@ -1,152 +1,146 @@
 // A driver in a given state and situation. It has the buffers that the state takes, so that refusal 12 does not describe it: transmit
 // buffer 0 and receive buffer 1, each 130 bytes long.
-use crate::numbers::state_of;
-use crate::situation::{AT_REST, DURING, NO_INTERRUPT};
-use rf233::driver::{Buffers, Clients, Driver, Flags, Settings, Slot, Under};
+use crate::situation::{Call, Situation};
+use crate::state::Group;
+use rf233::driver::{Buffers, Clients, Driver, Flags, Lent, Settings, Under};
+use rf233::state::InternalState;
 
-// The states in which a frame transfer is under way.
-fn names_frame(n: u8) -> bool {
-    (n == 34) | (n == 63) | (n == 65)
+// The same settings in every situation: those that the table's first text names.
+const SETTINGS: Settings = Settings {
+    addr: 0xABCD,
+    addr_long: [1, 2, 3, 4, 5, 6, 7, 8],
+    pan: 0x1234,
+    tx_power: 0,
+    channel: 26,
+};
+
+// The transmit buffer.
+const TX_BUFFER: Lent = Lent {
+    buffer: 0,
+    length: 130,
+};
+
+// The receive buffer.
+const RX_BUFFER: Lent = Lent {
+    buffer: 1,
+    length: 130,
+};
+
+// The frame transfer that is under way in the state, if any.
+fn frame_transfer(state: InternalState) -> Option<Under> {
+    match state {
+        InternalState::TX_WRITING_FRAME => Some(Under::FrameWrite(TX_BUFFER)),
+        InternalState::RX_READING_FRAME_LEN | InternalState::RX_READING_FRAME => {
+            Some(Under::FrameRead(RX_BUFFER))
+        }
+        _ => None,
+    }
 }
 
-// A state that takes the receive buffer.
-fn takes_rx(n: u8) -> bool {
-    (n == 62) | (n == 64) | (n == 68)
+// The state takes the receive buffer.
+fn takes_rx(state: InternalState) -> bool {
+    matches!(
+        state,
+        InternalState::RX_START_READING
+            | InternalState::RX_READING_FRAME_LEN_DONE
+            | InternalState::RX_ENABLING_RECEPTION
+    )
 }
 
 // A situation that the state can be in: IRQ_STATUS is not read, and nothing is at rest, while a frame transfer is under way; a state that
 // takes the receive buffer has it.
-pub fn is_possible(n: u8, c: u8) -> bool {
-    let frame = names_frame(n);
-    let takes = takes_rx(n);
-    let reads = ((NO_INTERRUPT <= c) & (c <= 40)) | (c == AT_REST);
-    let without = (c == 37) | (c == 38);
-    !(frame & reads) & !(takes & without)
+pub fn is_possible(state: InternalState, situation: &Situation) -> bool {
+    let reads = situation.flags.interrupt_handling
+        || (situation.call == Call::Firing && !situation.in_transfer);
+    !(frame_transfer(state).is_some() && reads) && !(takes_rx(state) && situation.no_rx_buf)
 }
 
-// The situation has a frame to send.
-fn sends(c: u8) -> bool {
-    (c == 20) | (c == 31) | (c == 38)
-}
-
-// From READY on the radio is on, but for the states of sleep; for a call it is on in every state.
-fn is_on(n: u8, c: u8) -> bool {
-    let off = (c == 27) | (c == 30);
-    let sleeps = (30 <= n) & (n <= 32);
-    !off & (((29 <= n) & !sleeps) | (AT_REST <= c))
+// From READY on the radio is on, but for the states of sleep; for a firing or a call it is on in every state.
+fn is_on(state: InternalState, situation: &Situation) -> bool {
+    let wakes = !matches!(Group::of(state), Group::Startup | Group::Sleep);
+    !situation.radio_off && (wakes || situation.call != Call::Completion)
 }
 
 // The flags that the state brings along, and those that the situation sets.
-fn flags(n: u8, c: u8) -> Flags {
-    let on = is_on(n, c);
-    let transmits = (33 <= n) & (n <= 44) & (c < AT_REST) & (c != 37);
-    let committing = (45 <= n) & (n <= 58) & (c < AT_REST);
-    let waits = sends(c);
-    let reads_irq = (NO_INTERRUPT <= c) & (c <= 40);
-    let frame = names_frame(n);
+fn flags(state: InternalState, situation: &Situation) -> Flags {
+    let set = situation.flags;
+    let completes = situation.call == Call::Completion;
+    let transmits = Group::of(state) == Group::Transmit && !situation.no_rx_buf;
+    let commits = Group::of(state) == Group::Commit;
     Flags {
-        radio_on: on,
-        transmitting: transmits | waits,
-        receiving: (c == 21) | ((36 <= c) & (c <= 38)),
-        crc_valid: c == 22,
-        interrupt_handling: reads_irq & !frame,
-        interrupt_pending: (39 <= c) & (c <= 41),
-        config_pending: committing | (c == 23),
-        sleep_pending: c == 24,
-        wake_pending: c == 25,
-        power_client_pending: c == 26,
+        radio_on: is_on(state, situation),
+        transmitting: set.transmitting || (completes && transmits),
+        interrupt_handling: set.interrupt_handling && frame_transfer(state).is_none(),
+        config_pending: set.config_pending || (completes && commits),
+        ..set
     }
 }
 
-// Every listener is there; in the situations of no_listener none is.
-fn clients(c: u8) -> Clients {
-    let absent = (c == 28) | (c == 30) | (c == 31);
+// Every listener is there, or none is.
+fn clients(situation: &Situation) -> Clients {
+    let there = !situation.no_listener;
     Clients {
-        tx_client: !absent,
-        rx_client: !absent,
-        cfg_client: !absent,
-        power_client: !absent,
-    }
-}
-
-// The same settings in every situation: those that the table's first text names.
-fn settings() -> Settings {
-    Settings {
-        addr: 0xABCD,
-        addr_long: [1, 2, 3, 4, 5, 6, 7, 8],
-        pan: 0x1234,
-        tx_power: 0,
-        channel: 26,
+        tx_client: there,
+        rx_client: there,
+        cfg_client: there,
+        power_client: there,
     }
 }
 
 // The transfer under way: the state's frame transfer, or a register's.
-fn under_way(n: u8, c: u8) -> Under {
-    if n == 34 {
-        return Under::FrameWrite(0, 130);
-    }
-    if names_frame(n) {
-        return Under::FrameRead(1, 130);
-    }
-    if (AT_REST <= c) & (c < DURING) {
-        return Under::Idle;
-    }
-    Under::Register
+fn under_way(state: InternalState, situation: &Situation) -> Under {
+    let other = if situation.in_transfer {
+        Under::Register
+    } else {
+        Under::Idle
+    };
+    frame_transfer(state).unwrap_or(other)
 }
 
-// Buffer 0 where the state or the situation has a frame to send; in state 34 the transfer has it.
-fn tx_buf(n: u8, c: u8) -> Slot {
-    let takes = (n == 33) | (n == 43);
-    let natural = (33 <= n) & (n <= 44) & (c < AT_REST);
-    let waits = sends(c);
-    if (takes | natural | waits) & (n != 34) {
-        return Slot::Held(0, 130);
-    }
-    Slot::Empty
+// Buffer 0 where the state or the situation has a frame to send; in TX_WRITING_FRAME the transfer has it.
+fn tx_buf(state: InternalState, situation: &Situation) -> Option<Lent> {
+    let takes = matches!(
+        state,
+        InternalState::TX_STATUS_PRECHECK1 | InternalState::TX_RETURN_TO_RX
+    );
+    let sends = Group::of(state) == Group::Transmit && situation.call == Call::Completion;
+    let lent = state == InternalState::TX_WRITING_FRAME;
+    let held = (takes || sends || situation.flags.transmitting) && !lent;
+    held.then_some(TX_BUFFER)
 }
 
-// Buffer 1 unless the situation is without it and the state does not take it; in 63 and 65 the transfer has it.
-fn rx_buf(n: u8, c: u8) -> Slot {
-    let takes = takes_rx(n);
-    let without = (c == 37) | (c == 38) | (AT_REST <= c);
-    if (takes | !without) & (n != 63) & (n != 65) {
-        return Slot::Held(1, 130);
-    }
-    Slot::Empty
+// Buffer 1 unless the situation is without it and the state does not take it; in the two states of a frame read the transfer has it.
+fn rx_buf(state: InternalState, situation: &Situation) -> Option<Lent> {
+    let there = situation.call == Call::Completion && !situation.no_rx_buf;
+    let lent = matches!(frame_transfer(state), Some(Under::FrameRead(_)));
+    let held = (takes_rx(state) || there) && !lent;
+    held.then_some(RX_BUFFER)
 }
 
 // The record of the buffers: those of the transfer under way are out of their places.
-fn buffers(n: u8, c: u8) -> Buffers {
-    let frame = names_frame(n);
-    let resting = (AT_REST <= c) & (c < DURING);
-    let under = under_way(n, c);
-    let tx = tx_buf(n, c);
-    let rx = rx_buf(n, c);
+fn buffers(state: InternalState, situation: &Situation) -> Buffers {
+    let under = under_way(state, situation);
+    let register = matches!(under, Under::Register);
     Buffers {
-        spi_tx: frame | resting,
-        spi_rx: frame | resting,
-        spi_buf: !frame,
+        spi_tx: !register,
+        spi_rx: !register,
+        spi_buf: frame_transfer(state).is_none(),
         spi_buf_whole: 129,
         spi_buf_len: 129,
-        tx_buf: tx,
-        rx_buf: rx,
+        tx_buf: tx_buf(state, situation),
+        rx_buf: rx_buf(state, situation),
         tx_len: 22,
-        under: under,
+        under,
     }
 }
 
-// The driver of state n in situation c.
-pub fn driver_in(n: u8, c: u8) -> Driver {
-    let state = state_of(n);
-    let set = flags(n, c);
-    let listening = clients(c);
-    let chosen = settings();
-    let record = buffers(n, c);
+// The driver of the state in the situation.
+pub fn driver_in(state: InternalState, situation: &Situation) -> Driver {
     Driver {
-        state: state,
-        flags: set,
-        clients: listening,
-        settings: chosen,
-        buffers: record,
+        state,
+        flags: flags(state, situation),
+        clients: clients(situation),
+        settings: SETTINGS,
+        buffers: buffers(state, situation),
     }
 }

@@ -1,110 +1,312 @@
-// The situations that each state is put in: conditions of a completion, results of a read of IRQ_STATUS, firings and calls, by number.
-// 0 is the plain completion: status RX_AACK_ON, result 0, length byte 20, all listeners there, no flag set that the state does not bring
-// along. Each other situation differs from it in what its name says.
-use record_words::words::nth;
-use rf233_const::status::{ExternalState, external_state_number};
-use script::print::text;
+// The situations that each state is put in: the conditions of a completion, and then the results of a read of IRQ_STATUS, the firings and
+// the calls. Each differs from the plain completion in what its name says.
+use rf233::driver::Flags;
+use rf233_const::interrupt::InteruptFlags;
+use rf233_const::status::ExternalState;
+use std::fmt;
 
-// Situations below this are conditions of a completion; those from COMBINED on name two things.
-pub const COMBINED: u8 = 30;
+// What the kernel or a client calls.
+#[derive(Clone, Copy, PartialEq, Eq)]
+pub enum Call {
+    Completion,
+    Firing,
+    Start,
+    Stop,
+    Commit,
+    Transmit,
+    ReceiveBuffer,
+    Reset,
+}
 
-// How many conditions of a completion there are: the situations below this.
-pub const CONDITIONS: u8 = 32;
+// What a situation's name speaks of.
+#[derive(Clone, Copy, PartialEq, Eq)]
+pub enum Kind {
+    // The plain completion.
+    Plain,
+    // A status that is no state's.
+    OtherStatus,
+    // The status is this state's.
+    Status,
+    // The second byte that arrives.
+    Result,
+    // One thing that differs from the plain completion.
+    One,
+    // Two such things at once.
+    Two,
+    // An interrupt, a firing or a call.
+    Event,
+}
+
+// What a situation may say beside its two bytes and its call. Values, since a closure that alters the situation did not prove: the borrow
+// checker does not cover `with` over one.
+#[derive(Clone, Copy)]
+enum Difference {
+    OtherStatus,
+    LengthByte(u8),
+    Transmitting,
+    Receiving,
+    CrcValid,
+    InterruptPending,
+    ConfigPending,
+    SleepPending,
+    WakePending,
+    PowerClientPending,
+    RadioOff,
+    NoListener,
+    NoRxBuf,
+    InTransfer,
+}
+
+// A situation: its name, the call that is made, whether a register transfer is under way, the two bytes that arrive (a status that is no
+// state's is None) and byte 1 of the receive buffer, the flags that are set, and what is not there.
+#[derive(Clone, Copy)]
+pub struct Situation {
+    pub kind: Kind,
+    pub name: &'static str,
+    pub call: Call,
+    pub in_transfer: bool,
+    pub status: Option<ExternalState>,
+    pub result: u8,
+    pub length: u8,
+    pub flags: Flags,
+    pub radio_off: bool,
+    pub no_listener: bool,
+    pub no_rx_buf: bool,
+}
+
+// No flag is set. A constant cannot call `Flags::default`.
+const NO_FLAGS: Flags = Flags {
+    radio_on: false,
+    transmitting: false,
+    receiving: false,
+    crc_valid: false,
+    interrupt_handling: false,
+    interrupt_pending: false,
+    config_pending: false,
+    sleep_pending: false,
+    wake_pending: false,
+    power_client_pending: false,
+};
+
+// The plain completion: status RX_AACK_ON, result 0, length byte 20, all listeners there, no flag set that the state does not bring along.
+pub const PLAIN: Situation = Situation {
+    kind: Kind::Plain,
+    name: "-",
+    call: Call::Completion,
+    in_transfer: true,
+    status: Some(ExternalState::RX_AACK_ON),
+    result: 0,
+    length: 20,
+    flags: NO_FLAGS,
+    radio_off: false,
+    no_listener: false,
+    no_rx_buf: false,
+};
 
 // A read of IRQ_STATUS that shows none of the interrupts that a step looks for.
-pub const NO_INTERRUPT: u8 = 32;
+pub const NO_INTERRUPT: Situation = Situation {
+    kind: Kind::Event,
+    name: "IRQ_none",
+    flags: Flags {
+        interrupt_handling: true,
+        ..NO_FLAGS
+    },
+    ..PLAIN
+};
 
-// From here on no transfer is under way, unless the state names one.
-pub const AT_REST: u8 = 42;
+// The interrupt pin fires while no transfer is under way, unless the state names one.
+pub const FIRING: Situation = Situation {
+    kind: Kind::Event,
+    name: "firing",
+    call: Call::Firing,
+    in_transfer: false,
+    ..PLAIN
+};
 
-// From here on a register transfer is under way again.
-pub const DURING: u8 = 49;
-
-// How many situations there are.
-pub const SITUATIONS: u8 = 53;
-
-// The bare name of a situation, without what it is a value of.
-fn name(out: &mut [u8], at: usize, c: u8) -> usize {
-    nth(
-        out,
-        at,
-        b"- other ON BUSY_RX BUSY_TX RX_ON TRX_OFF PLL_ON SLEEP PREP_DEEP_SLEEP BUSY_RX_AACK BUSY_TX_ARET TX_ARET_ON \
-          STATE_TRANSITION_IN_PROGRESS 10 11 127 128 0x20 0x60 transmitting receiving crc_valid config_pending sleep_pending wake_pending \
-          power_client_pending radio_off no_listener length_byte_1 radio_off+no_listener transmitting+no_listener IRQ_none IRQ_0_PLL_LOCK \
-          IRQ_2_RX_START IRQ_3_TRX_END IRQ_3_TRX_END+receiving IRQ_3_TRX_END+receiving+no_rx_buf \
-          IRQ_3_TRX_END+receiving+no_rx_buf+transmitting IRQ_0_PLL_LOCK+interrupt_pending IRQ_3_TRX_END+interrupt_pending \
-          interrupt_pending firing start stop config_commit transmit set_receive_buffer reset firing_in_transfer start_in_transfer \
-          stop_in_transfer config_commit_in_transfer",
-        c,
-    )
-}
-
-// The name of a situation that is not the first of a list.
-pub fn further_name(out: &mut [u8], at: usize, c: u8) -> usize {
-    let a = text(out, at, b", ");
-    name(out, a, c)
-}
-
-// The name of a situation, with what it is a value of.
-pub fn first_name(out: &mut [u8], at: usize, c: u8) -> usize {
-    if (1 <= c) & (c <= 13) {
-        let a = text(out, at, b"status ");
-        return name(out, a, c);
+impl Situation {
+    // A completion that is the plain one but for its name.
+    fn named(kind: Kind, name: &'static str) -> Situation {
+        Situation {
+            kind,
+            name,
+            ..PLAIN
+        }
     }
-    if (14 <= c) & (c <= 19) {
-        let a = text(out, at, b"result ");
-        return name(out, a, c);
-    }
-    name(out, at, c)
-}
 
-// The radio's state that the situation names.
-fn external_state(c: u8) -> ExternalState {
-    match c {
-        2 => ExternalState::ON,
-        3 => ExternalState::BUSY_RX,
-        4 => ExternalState::BUSY_TX,
-        5 => ExternalState::RX_ON,
-        6 => ExternalState::TRX_OFF,
-        7 => ExternalState::PLL_ON,
-        8 => ExternalState::SLEEP,
-        9 => ExternalState::PREP_DEEP_SLEEP,
-        10 => ExternalState::BUSY_RX_AACK,
-        11 => ExternalState::BUSY_TX_ARET,
-        12 => ExternalState::TX_ARET_ON,
-        13 => ExternalState::STATE_TRANSITION_IN_PROGRESS,
-        _ => ExternalState::RX_AACK_ON,
+    // The status shows the state.
+    fn status(name: &'static str, state: ExternalState) -> Situation {
+        Situation {
+            status: Some(state),
+            ..Situation::named(Kind::Status, name)
+        }
     }
-}
 
-// The first byte that arrives: 0x1E is the number of no state.
-pub fn status_byte(c: u8) -> u8 {
-    if c == 1 {
-        return 0x1E;
+    // The second byte that arrives is this one.
+    fn result(name: &'static str, second: u8) -> Situation {
+        Situation {
+            result: second,
+            ..Situation::named(Kind::Result, name)
+        }
     }
-    external_state_number(external_state(c))
-}
 
-// The second byte that arrives.
-pub fn result_byte(c: u8) -> u8 {
-    match c {
-        14 => 10,
-        15 => 11,
-        16 => 127,
-        17 => 128,
-        18 => 0x20,
-        19 => 0x60,
-        33 | 39 => 0x01,
-        34 => 0x04,
-        35..=38 | 40 => 0x08,
-        _ => 0,
+    // A read of IRQ_STATUS shows the interrupt.
+    fn interrupt(name: &'static str, shown: InteruptFlags) -> Situation {
+        Situation {
+            name,
+            result: u8::from(shown),
+            ..NO_INTERRUPT
+        }
+    }
+
+    // A firing or a call.
+    fn call(name: &'static str, call: Call) -> Situation {
+        Situation {
+            name,
+            call,
+            ..FIRING
+        }
+    }
+
+    // The situation, with one more difference.
+    fn with(mut self, difference: Difference) -> Situation {
+        match difference {
+            Difference::OtherStatus => self.status = None,
+            Difference::LengthByte(length) => self.length = length,
+            Difference::Transmitting => self.flags.transmitting = true,
+            Difference::Receiving => self.flags.receiving = true,
+            Difference::CrcValid => self.flags.crc_valid = true,
+            Difference::InterruptPending => self.flags.interrupt_pending = true,
+            Difference::ConfigPending => self.flags.config_pending = true,
+            Difference::SleepPending => self.flags.sleep_pending = true,
+            Difference::WakePending => self.flags.wake_pending = true,
+            Difference::PowerClientPending => self.flags.power_client_pending = true,
+            Difference::RadioOff => self.radio_off = true,
+            Difference::NoListener => self.no_listener = true,
+            Difference::NoRxBuf => self.no_rx_buf = true,
+            Difference::InTransfer => self.in_transfer = true,
+        }
+        self
     }
 }
 
-// Byte 1 of the receive buffer.
-pub fn length_byte(c: u8) -> u8 {
-    if c == 29 {
-        return 1;
+// The name, with what it is a value of.
+impl fmt::Display for Situation {
+    fn fmt<W: fmt::Write>(&self, f: &mut fmt::Formatter<W>) -> fmt::Result {
+        let value_of = match self.kind {
+            Kind::OtherStatus | Kind::Status => "status ",
+            Kind::Result => "result ",
+            _ => "",
+        };
+        write!(f, "{value_of}{}", self.name)
     }
-    20
+}
+
+// The plain completion, and each other status. `.ci/states` holds the names to the code's.
+pub fn statuses() -> [Situation; 14] {
+    [
+        PLAIN,
+        Situation::named(Kind::OtherStatus, "other").with(Difference::OtherStatus),
+        Situation::status("ON", ExternalState::ON),
+        Situation::status("BUSY_RX", ExternalState::BUSY_RX),
+        Situation::status("BUSY_TX", ExternalState::BUSY_TX),
+        Situation::status("RX_ON", ExternalState::RX_ON),
+        Situation::status("TRX_OFF", ExternalState::TRX_OFF),
+        Situation::status("PLL_ON", ExternalState::PLL_ON),
+        Situation::status("SLEEP", ExternalState::SLEEP),
+        Situation::status("PREP_DEEP_SLEEP", ExternalState::PREP_DEEP_SLEEP),
+        Situation::status("BUSY_RX_AACK", ExternalState::BUSY_RX_AACK),
+        Situation::status("BUSY_TX_ARET", ExternalState::BUSY_TX_ARET),
+        Situation::status("TX_ARET_ON", ExternalState::TX_ARET_ON),
+        Situation::status(
+            "STATE_TRANSITION_IN_PROGRESS",
+            ExternalState::STATE_TRANSITION_IN_PROGRESS,
+        ),
+    ]
+}
+
+// The results of a register read that a step tells apart.
+pub fn results() -> [Situation; 6] {
+    [
+        Situation::result("10", 10),
+        Situation::result("11", 11),
+        Situation::result("127", 127),
+        Situation::result("128", 128),
+        Situation::result("0x20", 0x20),
+        Situation::result("0x60", 0x60),
+    ]
+}
+
+// What else may differ in a completion: a flag, what is not there, the length byte.
+pub fn differences() -> [Situation; 12] {
+    let one = Kind::One;
+    let two = Kind::Two;
+    [
+        Situation::named(one, "transmitting").with(Difference::Transmitting),
+        Situation::named(one, "receiving").with(Difference::Receiving),
+        Situation::named(one, "crc_valid").with(Difference::CrcValid),
+        Situation::named(one, "config_pending").with(Difference::ConfigPending),
+        Situation::named(one, "sleep_pending").with(Difference::SleepPending),
+        Situation::named(one, "wake_pending").with(Difference::WakePending),
+        Situation::named(one, "power_client_pending").with(Difference::PowerClientPending),
+        Situation::named(one, "radio_off").with(Difference::RadioOff),
+        Situation::named(one, "no_listener").with(Difference::NoListener),
+        Situation::named(one, "length_byte_1").with(Difference::LengthByte(1)),
+        Situation::named(two, "radio_off+no_listener")
+            .with(Difference::RadioOff)
+            .with(Difference::NoListener),
+        Situation::named(two, "transmitting+no_listener")
+            .with(Difference::Transmitting)
+            .with(Difference::NoListener),
+    ]
+}
+
+// The reads of IRQ_STATUS, and an interrupt that waits.
+pub fn interrupts() -> [Situation; 10] {
+    let lock = InteruptFlags::IRQ_0_PLL_LOCK;
+    let start = InteruptFlags::IRQ_2_RX_START;
+    let end = InteruptFlags::IRQ_3_TRX_END;
+    [
+        NO_INTERRUPT,
+        Situation::interrupt("IRQ_0_PLL_LOCK", lock),
+        Situation::interrupt("IRQ_2_RX_START", start),
+        Situation::interrupt("IRQ_3_TRX_END", end),
+        Situation::interrupt("IRQ_3_TRX_END+receiving", end).with(Difference::Receiving),
+        Situation::interrupt("IRQ_3_TRX_END+receiving+no_rx_buf", end)
+            .with(Difference::Receiving)
+            .with(Difference::NoRxBuf),
+        Situation::interrupt("IRQ_3_TRX_END+receiving+no_rx_buf+transmitting", end)
+            .with(Difference::Receiving)
+            .with(Difference::NoRxBuf)
+            .with(Difference::Transmitting),
+        Situation::interrupt("IRQ_0_PLL_LOCK+interrupt_pending", lock).with(
+            Difference::InterruptPending,
+        ),
+        Situation::interrupt("IRQ_3_TRX_END+interrupt_pending", end).with(
+            Difference::InterruptPending,
+        ),
+        Situation::named(Kind::Event, "interrupt_pending").with(Difference::InterruptPending),
+    ]
+}
+
+// The firings and calls while no register transfer is under way.
+pub fn calls() -> [Situation; 7] {
+    [
+        FIRING,
+        Situation::call("start", Call::Start),
+        Situation::call("stop", Call::Stop),
+        Situation::call("config_commit", Call::Commit),
+        Situation::call("transmit", Call::Transmit),
+        Situation::call("set_receive_buffer", Call::ReceiveBuffer),
+        Situation::call("reset", Call::Reset),
+    ]
+}
+
+// The firings and calls while one is under way.
+pub fn calls_in_transfer() -> [Situation; 4] {
+    [
+        Situation::call("firing_in_transfer", Call::Firing).with(Difference::InTransfer),
+        Situation::call("start_in_transfer", Call::Start).with(Difference::InTransfer),
+        Situation::call("stop_in_transfer", Call::Stop).with(Difference::InTransfer),
+        Situation::call("config_commit_in_transfer", Call::Commit).with(Difference::InTransfer),
+    ]
 }

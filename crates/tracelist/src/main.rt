@@ -1,43 +1,37 @@
 // `tracelist`: trace blocks on standard input, a line for each of their records on standard output, in numbers or in words.
 #![tactic(auto)]
 
+mod blocks;
 mod list;
-mod stream;
+mod numbers;
+#[cfg(test)]
+mod tests;
 
-use std::env::{Env, FillError};
+use blocks::{BLOCK, Blocks};
+use list::{Form, Listing};
 use std::io;
-use std::io::{Eprint, Stdin, Stdout};
+use std::io::{BufReader, BufWriter, Eprint, Read, Write};
+use stdio::arguments::{Usage, asked};
 
-// What the arguments ask for.
-#[derive(Clone, Copy)]
-enum Asked {
-    Numbers,
-    Words,
-    Unknown,
-}
+// How much is read or written at once.
+const AT_ONCE: usize = 65536;
 
-// Whether argument i is there.
-fn has_argument(rt: &impl Env, i: usize) -> bool {
-    !matches!(rt.arg(i, &mut []), Err(FillError::NotPresent))
-}
-
-// None, or the one argument `words`.
-fn asked_for(rt: &impl Env) -> Asked {
-    let mut word = [0u8; 4096];
-    match rt.arg(1, &mut word) {
-        Err(FillError::NotPresent) => Asked::Numbers,
-        Ok(length) if &word[..length] == b"words".as_slice() && !has_argument(rt, 2) =>
-            Asked::Words,
-        _ => Asked::Unknown,
+// The whole input, to its last block, which may be cut short. The error of a read that failed comes behind it. A proved loop has to end,
+// and nothing says that the input does: it counts its turns, to a number that no run uses up.
+fn list_all<R: Read + Drop, W: Write + Drop>(form: Form, from: R, to: W) -> io::Result<()> {
+    let mut blocks = Blocks::new(from);
+    let mut listing = Listing::begin(form, to)?;
+    for _ in 0..u64::MAX {
+        let block = blocks.next();
+        if !block.is_empty() {
+            listing.block(block)?;
+        }
+        if block.len() < BLOCK {
+            break;
+        }
     }
-}
-
-// What is read, the block that is filled from it, and what is to be written.
-fn list_input(in_words: bool, stdin: &mut Stdin, stdout: &mut Stdout) -> io::Result<()> {
-    let mut input = [0u8; 65536];
-    let mut block = [0u8; 512];
-    let mut out = [0u8; 65536];
-    stream::list_all(in_words, stdin, stdout, &mut input, &mut block, &mut out)
+    listing.end()?;
+    blocks.told()
 }
 
 // Says on standard error how the program is called.
@@ -47,11 +41,14 @@ fn usage(rt: &impl Eprint) -> io::Result<()> {
     )
 }
 
-// Lists standard input as the arguments ask, or says how the program is called.
+// Lists standard input in the form that the arguments ask for, or says how the program is called.
 fn main(rt: HostRuntime) -> io::Result<()> {
-    match asked_for(&rt) {
-        Asked::Numbers => list_input(false, &mut rt.stdin(), &mut rt.stdout()),
-        Asked::Words => list_input(true, &mut rt.stdin(), &mut rt.stdout()),
-        Asked::Unknown => usage(&rt),
-    }
+    let form = match asked(&rt, b"words") {
+        Ok(true) => Form::Words,
+        Ok(false) => Form::Numbers,
+        Err(Usage) => return usage(&rt),
+    };
+    let from = BufReader::with_capacity(rt.alloc(), AT_ONCE, rt.stdin())?;
+    let to = BufWriter::with_capacity(rt.alloc(), AT_ONCE, rt.stdout())?;
+    list_all(form, from, to)
 }
