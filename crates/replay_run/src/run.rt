@@ -31,8 +31,8 @@ impl Run {
         }
     }
 
-    // A call with its output, or what stands around the calls, with the bytes that the line names. They go beside the line, since it holds no
-    // slice of them (`Line` says why).
+    // A call with its output, or what stands around the calls, with the bytes that the line names. They go beside the line, since it holds
+    // no slice of them (`Line` says why).
     fn perform<W: Write>(&mut self, line: Line, bytes: &[u8], to: &mut W) -> io::Result<()> {
         match line {
             Line::Pool(at, count) => self.session.store(at, bytes, count),

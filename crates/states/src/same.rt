@@ -18,8 +18,8 @@ pub struct Case<K> {
 }
 
 impl<K> Case<K> {
-    // The names go on with a later condition's. The plain completion and a status with no name are listed without the others that do the same, and a condition
-    // that names two things is not listed.
+    // The names go on with a later condition's. The plain completion and a status with no name are listed without the others that do the
+    // same, and a condition that names two things is not listed.
     fn add(&mut self, later: &Situation) -> Result<(), AllocError> {
         let speaks = matches!(self.step.situation.kind, Kind::Plain | Kind::OtherStatus);
         if speaks || later.kind == Kind::Two {
