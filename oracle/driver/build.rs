@@ -1,13 +1,23 @@
-//! Copies the Rust driver into the build, byte for byte, and opens it to `probe.rs`.
+//! Copies the Rust driver into the build, with the repairs of request 2026-02, and opens it
+//! to `probe.rs`.
 //!
+//! The repairs are `docs/2026-02.patch`; where it does not apply exactly, the build fails.
 //! The copy of `rf233.rs` gets one line more at its end: a child module, which sees the
-//! driver's private fields. With the feature `planted` one value of the copy is changed
-//! as well, for the run that shows that the comparison finds such a mistake.
+//! driver's private fields. With the feature `unpatched` the copy is the file as it stands
+//! in `docs/src`, without the repairs. With the feature `planted` one value of the copy is
+//! changed as well. Both are for the runs that show that the comparison finds such a
+//! difference.
+
+mod patch;
 
 use std::path::{Path, PathBuf};
 use std::{env, fs};
 
-const SOURCES: &str = "../../docs/src/capsules/extra/src";
+/// The repository's root, from here.
+const ROOT: &str = "../..";
+const DRIVER: &str = "docs/src/capsules/extra/src/rf233.rs";
+const CONSTANTS: &str = "docs/src/capsules/extra/src/rf233_const.rs";
+const PATCH: &str = "docs/2026-02.patch";
 
 /// The planted mistake: the startup's write of CSMA_SEED_1 is made with another value.
 const PLANTED: (&str, &str) = (
@@ -19,14 +29,18 @@ fn main() {
     let home = PathBuf::from(variable("CARGO_MANIFEST_DIR"));
     let out = PathBuf::from(variable("OUT_DIR"));
     let probe = home.join("src/probe.rs");
-    let sources = home.join(SOURCES);
+    let root = home.join(ROOT);
     println!("cargo::rerun-if-changed=build.rs");
+    println!("cargo::rerun-if-changed=patch.rs");
 
     let constants = out.join("rf233_const.rs");
-    write(&constants, &read(&sources.join("rf233_const.rs")));
+    write(&constants, &read(&root.join(CONSTANTS)));
 
-    let mut driver = read(&sources.join("rf233.rs"));
-    if env::var_os("CARGO_FEATURE_PLANTED").is_some() {
+    let mut driver = read(&root.join(DRIVER));
+    if !feature("UNPATCHED") {
+        driver = patched(&root, &driver);
+    }
+    if feature("PLANTED") {
         driver = planted(&driver);
     }
     let copy = out.join("rf233.rs");
@@ -41,6 +55,13 @@ fn main() {
     write(&out.join("rf233_modules.rs"), &modules);
 }
 
+/// The driver with the repairs of request 2026-02.
+fn patched(root: &Path, driver: &str) -> String {
+    let repairs = read(&root.join(PATCH));
+    patch::applied(&repairs, DRIVER, driver)
+        .unwrap_or_else(|why| panic!("{PATCH} does not apply to {DRIVER}: {why}"))
+}
+
 /// The driver with its one planted mistake.
 fn planted(driver: &str) -> String {
     let (right, wrong) = PLANTED;
@@ -50,6 +71,10 @@ fn planted(driver: &str) -> String {
         "the text to change for the planted mistake is there {found} times"
     );
     driver.replace(right, wrong)
+}
+
+fn feature(name: &str) -> bool {
+    env::var_os(format!("CARGO_FEATURE_{name}")).is_some()
 }
 
 fn variable(name: &str) -> String {

@@ -1,6 +1,6 @@
 -- Laws for the book of custody: what numbers say of the places at which the record has a buffer, that the book keeps in step where one or
 -- two buffers move, how many buffers a place has, and what the record's tests say. Assumes nothing.
-use Rattle.std.proofs.Common.{◌≡◌, ℕ, zero, suc, ◌+◌, ◌*◌, ◌<◌, ◌≤◌, Bool, true, false, not, ◌||◌, T, eqb, ltb, List, [], ◌∷◌, length}
+use Rattle.std.proofs.Common.{◌≡◌, ℕ, zero, suc, ◌+◌, ◌*◌, ◌<◌, ◌≤◌, Bool, true, false, ◌||◌, T, eqb, ltb, List, [], ◌∷◌, length}
 use Rattle.std.proofs.Common.{get_or, set, refl, ◌∙◌, arith, length-set, get_or-set_other, get_or-set_same, ltb-false, eq-eqb}
 use Rattle.std.proofs.Common.{ne_eqb, eqb-true}
 use borrow.Author.Tests.{eqb-false}
@@ -9,10 +9,7 @@ use Rattle.custody.specs.Book.{filled}
 use Rattle.custody.specs.Claim.{only, kind_of}
 use Rattle.std.specs.Prelude.{Option, None, is_some}
 use Rattle.rf233.specs.Record.{one}
-use Rattle.rf233.specs.Transfer.{under_way}
 use Rattle.rf233.specs.declared.driver.Lent.{Lent}
-use Rattle.rf233.specs.declared.driver.Under.{Under}
-use Rattle.rf233.specs.declared.driver.Under.TheVariants.{Idle}
 use Rattle.rf233.specs.Choice.{one_of}
 use Rattle.rf233.specs.Place.{client_place, own_place, transmit_place, receive_place, transfer_place, when}
 
@@ -155,10 +152,7 @@ filled_none p l (suc n) h = rw (filled_none p l n (λ b i. h b (omega arith)), h
 pub as_kind : {A : Type 0} (f : ℕ → A) (n : ℕ) → f 2 ≡ f 1 → f n ≡ f (kind_of n)
 as_kind f n e = grind arith
 
--- no transfer is under way, and no buffer in a place
-pub idle_is : (u : Under) → not (under_way u) ≡ true → u ≡ Idle
-idle_is u e = grind arith
-
+-- no buffer in a place
 pub empty_is : (s : Option Lent) → is_some s ≡ false → s ≡ None
 empty_is s e = grind arith
 

@@ -21,11 +21,11 @@ use Rattle.rf233.specs.Record.{lent, record_has}
 use Rattle.rf233.specs.declared.transfer.TransferKind.TheVariants as transfer
 use Rattle.rf233.specs.State.{state_no}
 use Rattle.rf233.specs.Step.{quiet}
-use Rattle.rf233.specs.Transfer.{to_complete}
+use Rattle.rf233.specs.Transfer.{free_to_start, to_complete}
 use Rattle.rf233.specs.declared.answer.Outcome.{Outcome}
 use Rattle.rf233.specs.declared.driver.Driver.{Driver}
 use Rattle.rf233.specs.declared.driver.Under.{Under}
-use Rattle.rf233.specs.declared.state.InternalState.TheVariants.{SLEEP_WAKE, SLEEP_TRX_OFF, CONFIG_SHORT0_SET, TX_STATUS_PRECHECK1}
+use Rattle.rf233.specs.declared.state.InternalState.TheVariants.{SLEEP_WAKE, SLEEP_TRX_OFF, TX_STATUS_PRECHECK1}
 use Rattle.custody.specs.Book.{Page, Fed, called, entered}
 use Rattle.custody.specs.Book.Fed.{completes, other, lends_transmit, lends_receive}
 use Rattle.custody.specs.Claim.{Call, fed, made, yields}
@@ -49,12 +49,16 @@ use Rattle.custody.specs.Claim.Call.{
 use Rattle.laws.proofs.Logic.{right, pair, is_false, nor_left, nor_right}
 use Rattle.rf233.proofs.Accepted.{IsDone, done_handle, done_completed}
 use Rattle.rf233.proofs.ChoiceLaws.{branch, either}
+use Rattle.rf233.proofs.CommitLaws.{commit_waits}
+use Rattle.rf233.proofs.Conditions.{by_flag}
+use Rattle.rf233.proofs.EveryStep.{commit_by}
 use Rattle.rf233.proofs.Facts.{kind, frame_of, of}
-use Rattle.rf233.proofs.Fit.{fit, join_same, join_32, join_30, join_45, join_33, unsent, tx_fits, rx_fits}
+use Rattle.rf233.proofs.Fit.{fit, join_same, join_32, join_30, join_33, unsent, tx_fits, rx_fits}
 use Rattle.custody.proofs.BookLaws.{empty_is}
 use Rattle.custody.proofs.Custody.{Inv, After, Lengths}
 use Rattle.custody.proofs.Events.{completed_keeps, others, asks_any, fires_any}
 use Rattle.custody.proofs.Match.{refuses, lends_tx, lends_rx}
+use Rattle.custody.proofs.Phases.{commits}
 
 -- the invariant once a call is entered into the book
 abbrev pub Entered : Fed → Page → Outcome → Type 0
@@ -124,16 +128,18 @@ module _ (k : Page) (d : Driver) (v : Inv k d) where
 
   done_committing : IsDone (begin_commit d)
   unfolding begin_commit
-  done_committing = either IsDone _ _ _ refl (either IsDone _ _ _ refl refl)
+  done_committing = either IsDone _ _ _ refl (either IsDone _ _ _ (commit_by IsDone _ refl refl) refl)
 
   committing_keeps : After k (begin_commit d)
   unfolding begin_commit
   committing_keeps =
       let e = flagged config_pending true d in
+      let kept = others k d v e refl v.fitted in
       branch (After k) _ _ _ (λ y. v)
       (λ y. branch (After k) _ _ _
-      (λ z. asks_any k d v (with_state CONFIG_SHORT0_SET e) refl transfer.RegisterWrite _ _ refl refl (join_45.gives (of d) v.fitted tt z))
-      (λ z. others k d v e refl v.fitted))
+      (λ z. by_flag (free_to_start d.buffers) (λ f. commits k e (record { inv = kept; free = f }))
+      (λ f. subst (After k) (sym (commit_waits e f)) kept))
+      (λ z. kept))
 
   commit_keeps : (p : List ℕ) → Yields other (commit_call d p)
   unfolding commit_call

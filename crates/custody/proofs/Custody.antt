@@ -33,8 +33,8 @@ use Rattle.laws.proofs.Logic.{both_left, left, right}
 use Rattle.rf233.proofs.Facts.{of, under, holding}
 use Rattle.rf233.proofs.Facts.Kind.{access, reading}
 use Rattle.rf233.proofs.Fit.{fit, ok_access}
+use Rattle.rf233.proofs.OwnBuffers.{idle_is}
 use Rattle.custody.proofs.Actions.{full}
-use Rattle.custody.proofs.BookLaws.{idle_is}
 use Rattle.custody.proofs.Match.{Match, Own, begins}
 
 -- every length of the record is within its bounds

@@ -23,8 +23,7 @@ use Rattle.rf233.proofs.Conditions.{by_flag}
 use Rattle.rf233.proofs.EveryStep.{completion_by}
 use Rattle.rf233.proofs.Facts.{kind, is_none, of, under, over_is}
 use Rattle.rf233.proofs.Fit.{fit, joins, return_fits}
-use Rattle.rf233.proofs.OwnBuffers.{register_refrains}
-use Rattle.custody.proofs.BookLaws.{idle_is}
+use Rattle.rf233.proofs.OwnBuffers.{idle_is, register_refrains}
 use Rattle.custody.proofs.Custody.{Inv, After, Lengths}
 use Rattle.custody.proofs.Match as match
 use Rattle.custody.proofs.Match.{Match}

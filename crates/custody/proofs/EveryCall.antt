@@ -23,6 +23,7 @@ use Rattle.rf233.specs.declared.arrived.Arrived.{Arrived}
 use Rattle.rf233.specs.declared.driver.Driver.{Driver}
 use Rattle.rf233.specs.declared.transfer.TransferKind.TheVariants as transfer
 use Rattle.rf233.proofs.ChoiceLaws.{branch, either}
+use Rattle.rf233.proofs.EveryStep.{commit_by}
 use Rattle.rf233.proofs.Sound.{driver_right}
 use Rattle.custody.specs.Claim.{Call, made, with_pool}
 use Rattle.custody.specs.Claim.Call.{
@@ -91,7 +92,7 @@ module _ (d : Driver) (p : List ℕ) (P : Call → Called → Type 0) (of : OfCa
   of_commit =
       either (P commit) _ _ _ (of.refuses commit 12 d tt refl)
       (either (Steps commit) _ _ _ (of.rests commit d _)
-      (either (Steps commit) _ _ _ (of.writes commit _ _ _ _) (of.rests commit _ _)))
+      (either (Steps commit) _ _ _ (commit_by (Steps commit) _ (of.writes commit _ _ _ _) (of.rests commit _ _)) (of.rests commit _ _)))
 
   of_fired : P fire (fired_call d p)
   unfolding fired_call handle_interrupt

@@ -6,8 +6,9 @@ use mathlib.Core.Bool.{and-true, and-false, or-false}
 use borrow.Author.Tests.{eqb-false}
 use Rattle.rf233.proofs.Conditions.{by_flag}
 use Rattle.laws.proofs.Logic.{left, right, none_left, none_right, or_left_comm, below_at}
+use Rattle.rf233.proofs.OwnBuffers.{idle_is}
 use Rattle.custody.proofs.BookLaws.{count_by, sum_by, fit, own_or_under, of_two, of_three, of_first, sum, Booked, both, More}
-use Rattle.custody.proofs.BookLaws.{two_moved, comes, goes, filled_none, as_kind, idle_is, empty_is, some_one, low, same}
+use Rattle.custody.proofs.BookLaws.{two_moved, comes, goes, filled_none, as_kind, empty_is, some_one, low, same}
 use Rattle.custody.specs.Book.{Page, new_page, missing, write_from, read_from, room, full, brought, ended, given, names_own, taken}
 use Rattle.custody.specs.Book.{acts, turned_down}
 use Rattle.custody.specs.Claim.{only, held_below, kind_of, under_kind, under_write, under_read}

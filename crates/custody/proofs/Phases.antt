@@ -3,18 +3,18 @@
 use Rattle.std.proofs.Common.{arith}
 use Rattle.std.proofs.Common.{◌≡◌, ℕ, true, false, not, ◌&&◌, T, eqb, leb, [], length, sym, refl, ap, ◌∙◌, subst, le_trans, leb→le}
 use Rattle.rf233.specs.Action.{actions}
-use Rattle.rf233.specs.Case.{perform, accessed, case_of, own_case, shown, handed, entering, trees, tree_at}
-use Rattle.rf233.specs.Choice.{pick, within}
-use Rattle.rf233.specs.Completion.{falls_on}
+use Rattle.rf233.specs.Case.{perform, accessed, case_of, own_case, shown, handed, entering}
+use Rattle.rf233.specs.Choice.{within}
+use Rattle.rf233.specs.Commit.{start_commit}
 use Rattle.rf233.specs.Driver.{assigning, flagged, with_buffers, with_state}
 use Rattle.rf233.specs.Driver.Flag.{interrupt_handling}
 use Rattle.rf233.specs.Interrupt.{handle_interrupt, interrupt_state}
-use Rattle.rf233.specs.Rows.{Next, Row, holds, eval}
+use Rattle.rf233.specs.Rows.{Next, Row, holds}
 use Rattle.rf233.specs.Rows.Row.{does}
 use Rattle.rf233.specs.Rows.Test.{length_fits}
 use Rattle.rf233.specs.Starter.{register_transfer}
 use Rattle.rf233.specs.State.{state_no}
-use Rattle.rf233.specs.Step.{step_of}
+use Rattle.rf233.specs.Step.{step_of, quiet, by_answer}
 use Rattle.rf233.specs.Transfer.{kind_value, free_to_start}
 use Rattle.rf233.specs.declared.transfer.TransferKind.{TransferKind}
 use Rattle.rf233.specs.declared.transfer.TransferKind.TheVariants as transfer
@@ -34,14 +34,14 @@ use Rattle.custody.specs.Book.{Page, noted_all}
 use Rattle.custody.specs.Claim.{kind_of}
 use Rattle.laws.proofs.Logic.{left, right}
 use Rattle.rf233.proofs.ChoiceLaws.{branch}
-use Rattle.rf233.proofs.EveryStep.{Kept, Ends, commits_first, every_access}
+use Rattle.rf233.proofs.EveryStep.{Kept, Ends, every_access}
 use Rattle.rf233.proofs.Facts.{kind, is_none, of, under, settled, settled_is, prepared_is}
 use Rattle.rf233.proofs.Facts.Kind.{access}
-use Rattle.rf233.proofs.Fit.{fit, ok_shown, ok_access, ok_row, row_fits, to_46, to_60, to_handling, to_62, to_33, to_29, to_59, to_28}
+use Rattle.rf233.proofs.Fit.{fit, ok_shown, ok_access, ok_row, row_fits, to_45, to_60, to_handling, to_62, to_33, to_29, to_59, to_28}
 use Rattle.rf233.proofs.Fit.{to_42}
+use Rattle.rf233.proofs.OwnBuffers.{idle_is}
 use Rattle.rf233.proofs.Trees.{row_of}
 use Rattle.custody.proofs.Actions.{noted_padded, fewer, hands}
-use Rattle.custody.proofs.BookLaws.{idle_is}
 use Rattle.custody.proofs.Custody.{
   Inv,
   After,
@@ -141,16 +141,16 @@ module _ (k : Page) where
       (to_handling.gives (of d) o (rests d v) tt)))
       (λ y. absurd (subst (λ t. T (not t)) v.free y))
 
-  -- a waiting commit: the first write begins, and the state is 46
-  commits : (a : Arrived) (d : Driver) → Rest k d → After k (falls_on (commits_first d) (own_case a (commits_first d).driver))
-  unfolding case_of tree_at trees eval perform register_transfer pick
-  commits a d v =
+  -- a commit starts: the first write begins, and the state is 45
+  pub commits : (d : Driver) → Rest k d → After k (start_commit d)
+  unfolding start_commit by_answer
+  commits d v =
       let e = with_state CONFIG_SHORT0_SET d in
-      subst (λ s. After k (falls_on (step_of s (actions [])) (own_case a s.driver)))
+      subst (λ s. After k (by_answer s.answer (step_of s (actions [])) (quiet d (actions []))))
       (sym (register_begins k e v.inv.match v.inv.lengths v.free transfer.RegisterWrite _ _))
       (record {
         match = begins d.buffers k v.inv.match Register 2 tt refl v.free;
-        fitted = to_46.gives (of d) v.inv.fitted (rests d v) tt;
+        fitted = to_45.gives (of d) v.inv.fitted (rests d v) tt;
         lengths = lengths_register d.buffers v.inv.lengths;
       })
 

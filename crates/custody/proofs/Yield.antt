@@ -8,7 +8,7 @@ use Rattle.std.specs.Prelude.{Option, None, Some}
 use Rattle.rf233.specs.Action.{actions}
 use Rattle.rf233.specs.Answer.{answer_of}
 use Rattle.rf233.specs.Case.{perform, case_of, own_case, shown, accessed, entering, trees, tree_at}
-use Rattle.rf233.specs.Completion.{falls_on, completed}
+use Rattle.rf233.specs.Completion.{completed}
 use Rattle.rf233.specs.Driver.{assigning}
 use Rattle.rf233.specs.Interrupt.{handle_interrupt}
 use Rattle.rf233.specs.Rows.{Access, Row}
@@ -30,7 +30,7 @@ use Rattle.rf233.specs.declared.driver.Lent.{Lent}
 use Rattle.rf233.specs.declared.starter.Started.{Started}
 use Rattle.rf233.specs.declared.transfer.Transfer.{Transfer}
 use Rattle.rf233.proofs.ChoiceLaws.{either}
-use Rattle.rf233.proofs.EveryStep.{commits_first, completion_by}
+use Rattle.rf233.proofs.EveryStep.{commit_by, completion_by}
 use Rattle.rf233.proofs.Trees.{leaves, unknown, row_of, row_of_lem}
 use Rattle.custody.specs.Book.{is_act}
 use Rattle.custody.specs.Yield.{act_count, Yield, SixActions}
@@ -147,11 +147,6 @@ unfolding handle_interrupt
 firing_yields d =
     either Yields _ _ _ (either Yields _ _ _ (asks transfer.RegisterWrite _ _ _) (asks transfer.RegisterRead _ _ _)) (nothing Done)
 
--- a step that falls on has the first one's transfer and the next one's actions
-falls_yields : (first next : Outcome) → Yields first → Yields next → Yields (falls_on first next)
-falls_yields f n y z =
-    record { transfer = y.transfer; places = z.places; most = z.most; counted = z.counted; first = z.first }
-
 completion_yields : (a : Arrived) (d : Driver) → Yields (completed a d)
 completion_yields a d =
     completion_by Yields (λ e. Unit {0}) (record { flags = λ f e s h g. tt; moves = λ b e g. tt; reads = λ e h g. tt })
@@ -159,9 +154,7 @@ completion_yields a d =
       fires = λ e g. firing_yields e;
       sends = λ e g s. asks transfer.RegisterRead _ _ _;
       waits = λ e g. asks transfer.RegisterRead _ _ _;
-      commits = λ b e g.
-          falls_yields (commits_first e) (own_case b (commits_first e).driver) (asks transfer.RegisterWrite _ _ _)
-          (case_yields b (commits_first e).driver);
+      commits = λ e g. commit_by Yields e (asks transfer.RegisterWrite _ _ _) (nothing Done);
       case = λ b e g. case_yields b e;
     }) a d tt
 

@@ -6,7 +6,7 @@ use borrow.Author.Tests.{not-false}
 use mathlib.Core.List.{List}
 use Prim.Native.Nat.{ℕ}
 use lib.Dec.{eqb}
-use Rattle.rf233.proofs.EveryStep.{OfSteps, every_firing, every_completion, every_access}
+use Rattle.rf233.proofs.EveryStep.{OfSilent, every_firing, every_completion, every_access}
 use Rattle.rf233.proofs.ChoiceLaws.{either}
 use Rattle.rf233.specs.Answer.{answer_no}
 use Rattle.rf233.specs.Guard.{Called, pool_fault}
@@ -39,14 +39,14 @@ done_own : (a : Arrived) (d : Driver) → IsDone (own_case a d)
 unfolding case_of
 done_own a d = done_perform (eval (tree_at _) a d) a d
 
-done_steps : OfSteps IsDone
-done_steps = record { silent = λ d t. refl; falls = λ t next p. refl }
+done_silent : OfSilent IsDone
+done_silent d t = refl
 
 pub done_handle : (d : Driver) → IsDone (handle_interrupt d)
-done_handle = every_firing IsDone done_steps
+done_handle = every_firing IsDone done_silent
 
 pub done_completed : (a : Arrived) (d : Driver) → IsDone (completed a d)
-done_completed = every_completion IsDone done_steps done_own
+done_completed = every_completion IsDone done_silent done_own
 
 -- what is accepted went past a test that refuses
 pub past : (t : Bool) (r s : Called) → accepted r ≡ false → accepted (pick t r s) ≡ true → pick t r s ≡ s
@@ -72,11 +72,15 @@ completion_accepted d xs p e =
     let e₃ = past (arrived_bad xs d.buffers) _ _ refl (ap accepted (sym e₂) ∙ (ap accepted (sym e₁) ∙ e)) in
     ap after (e₁ ∙ (e₂ ∙ e₃))
 
--- a completion that is accepted had a transfer to complete
-not_refused : (t : Bool) (r s : Called) → accepted r ≡ false → accepted (pick t r s) ≡ true → t ≡ false
+-- a completion that is accepted had a pool, a transfer to complete, and bytes that it can bring
+pub not_refused : (t : Bool) (r s : Called) → accepted r ≡ false → accepted (pick t r s) ≡ true → t ≡ false
 unfolding pick
 not_refused true r s e a = clash (accepted r) e a
 not_refused false r s e a = refl
+
+pub had_pool : (d : Driver) (xs p : List ℕ) → accepted (completion_call d xs p) ≡ true → pool_fault d p ≡ false
+unfolding completion_call
+had_pool d xs p e = not_refused (pool_fault d p) _ _ refl e
 
 pub had_transfer : (d : Driver) (xs p : List ℕ) → accepted (completion_call d xs p) ≡ true → to_complete d.buffers ≡ true
 unfolding completion_call
@@ -84,11 +88,18 @@ had_transfer d xs p e =
     not-false (to_complete d.buffers)
     (not_refused (not (to_complete d.buffers)) _ _ refl (ap accepted (sym (past (pool_fault d p) _ _ refl e)) ∙ e))
 
+pub had_bytes : (d : Driver) (xs p : List ℕ) → accepted (completion_call d xs p) ≡ true → arrived_bad xs d.buffers ≡ false
+unfolding completion_call
+had_bytes d xs p e =
+    let e₁ = past (pool_fault d p) _ _ refl e in
+    let e₂ = past (not (to_complete d.buffers)) _ _ refl (ap accepted (sym e₁) ∙ e) in
+    not_refused (arrived_bad xs d.buffers) _ _ refl (ap accepted (sym e₂) ∙ (ap accepted (sym e₁) ∙ e))
+
 -- a refused event leaves the driver as it was
 abbrev Unaltered : Driver → Called → Type 0
 Unaltered d c = accepted c ≡ false → after c ≡ d
 
-done_is_accepted : (o : Outcome) → IsDone o → eqb (answer_no o.reply.answer) 0 ≡ true
+pub done_is_accepted : (o : Outcome) → IsDone o → eqb (answer_no o.reply.answer) 0 ≡ true
 done_is_accepted o e = ap (λ x. eqb (answer_no x) 0) e
 
 pub fired_refused : (d : Driver) (p : List ℕ) → Unaltered d (fired_call d p)

@@ -1,14 +1,14 @@
 -- One walk through the phases of a completion: what holds of the steps in which they end (`Ends`), with a fact G of the driver that the
--- phases keep (`Kept`), holds of every completion (`completion_by`). For what holds of every step that shows nothing, of every state's own
--- case, and of a step that falls on into such a one (`OfSteps`): `every_firing`, `every_completion`. Assumes nothing.
+-- phases keep (`Kept`), holds of every completion (`completion_by`). For what holds of every step that shows nothing, and of every
+-- state's own case: `every_firing`, `every_completion`. Assumes nothing.
 use mathlib.Core.Path.{◌≡◌, refl}
 use mathlib.Core.List.{[]}
 use lib.Dec.{T}
-use Rattle.rf233_const.specs.declared.register.RF233Register.TheVariants.{MIN, TRX_STATUS, SHORT_ADDR_0}
+use Rattle.rf233_const.specs.declared.register.RF233Register.TheVariants.{MIN, TRX_STATUS}
 use Rattle.rf233.specs.Action.{actions}
 use Rattle.rf233.specs.Case.{accessed, own_case}
+use Rattle.rf233.specs.Commit.{first_write, start_commit}
 use Rattle.rf233.specs.Completion.{
-  falls_on,
   waiting_commit,
   pending_interrupt,
   ready_bookkeeping,
@@ -23,9 +23,8 @@ use Rattle.rf233.specs.Interrupt.{handle_interrupt, interrupt_state}
 use Rattle.std.specs.Prelude.{Option, is_some}
 use Rattle.rf233.specs.Rows.{Access}
 use Rattle.rf233.specs.Rows.Access.{none, reads, writes, reads_length, reads_frame, writes_frame}
-use Rattle.rf233.specs.Step.{done_step, transition_read, transition_write}
-use Rattle.rf233.specs.Starter.{register_transfer}
-use Rattle.rf233.specs.Write.{value_of}
+use Rattle.rf233.specs.Step.{done_step, quiet, transition_read, by_answer}
+use Rattle.rf233.specs.Write.{table_write}
 use Rattle.rf233.specs.declared.action.Actions.{Actions}
 use Rattle.rf233.specs.declared.answer.Outcome.{Outcome}
 use Rattle.rf233.specs.declared.arrived.Arrived.{Arrived}
@@ -33,13 +32,12 @@ use Rattle.rf233.specs.declared.driver.Driver.{Driver}
 use Rattle.rf233.specs.declared.driver.Flags.{Flags}
 use Rattle.rf233.specs.declared.state.InternalState.TheVariants.{
   READY,
-  CONFIG_SHORT0_SET,
   RX_START_READING,
   TX_STATUS_PRECHECK1,
 }
-use Rattle.rf233.specs.declared.starter.Started.{Started}
+use Rattle.rf233.specs.declared.starter.StarterAnswer.{StarterAnswer}
+use Rattle.rf233.specs.declared.starter.StarterAnswer.TheVariants.{Began, UnderWay}
 use Rattle.rf233.specs.declared.transfer.Transfer.{Transfer}
-use Rattle.rf233.specs.declared.write.Value.TheVariants.{AddrLow}
 use Rattle.rf233.proofs.ChoiceLaws.{branch, either}
 
 -- a fact of the driver that the phases of a completion keep: whatever flags but `transmitting` and `interrupt_handling` become; where the
@@ -51,23 +49,19 @@ pub record Kept (G : Driver → Type 0) : Type 0 where
   pub moves : (a : Arrived) (d : Driver) → G d → G (with_state (interrupt_state a d.state) d)
   pub reads : (d : Driver) → T (is_some d.buffers.rx_buf) → G d → G (with_state RX_START_READING d)
 
--- the first write of a commit
-abbrev pub commits_first : Driver → Outcome
-commits_first d = transition_write SHORT_ADDR_0 (value_of AddrLow d.settings) CONFIG_SHORT0_SET d
-
 -- what holds of the steps in which a completion ends: a firing that was pending; the end of a frame, with a send waiting and without; a
 -- waiting commit; the state's own case
 pub record Ends (P : Outcome → Type 0) (G : Driver → Type 0) : Type 0 where
   pub fires : (d : Driver) → G d → P (handle_interrupt d)
   pub sends : (d : Driver) → G d → T (flag transmitting d.flags) → P (transition_read MIN TX_STATUS_PRECHECK1 d)
   pub waits : (d : Driver) → G d → P (transition_read TRX_STATUS READY d)
-  pub commits : (a : Arrived) (d : Driver) → G d → P (falls_on (commits_first d) (own_case a (commits_first d).driver))
+  pub commits : (d : Driver) → G d → P (start_commit d)
   pub case : (a : Arrived) (d : Driver) → G d → P (own_case a d)
 
 module _ (P : Outcome → Type 0) (G : Driver → Type 0) (kept : Kept G) (ends : Ends P G) where
   commit : (a : Arrived) (d : Driver) → G d → P (waiting_commit a d)
   unfolding waiting_commit
-  commit a d g = either P _ _ _ (ends.commits a d g) (ends.case a d g)
+  commit a d g = either P _ _ _ (ends.commits d g) (ends.case a d g)
 
   pending : (a : Arrived) (d : Driver) → G d → P (pending_interrupt a d)
   unfolding pending_interrupt
@@ -93,38 +87,41 @@ module _ (P : Outcome → Type 0) (G : Driver → Type 0) (kept : Kept G) (ends 
   unfolding completed
   completion_by a d g = either P _ _ _ (result a _ g) (ready a _ g)
 
--- what holds of every step that shows nothing, and of a step that falls on into one of which it holds
-pub record OfSteps (P : Outcome → Type 0) : Type 0 where
-  pub silent : (d : Driver) (t : Option Transfer) → P (done_step d t (actions []))
-  pub falls : (t : Option Transfer) (next : Outcome) → P next → P (done_step next.driver t next.reply.actions)
+-- what holds of both steps that a starter's answer decides between holds of the one that it decides for
+by_either : (P : Outcome → Type 0) (s : StarterAnswer) (x y : Outcome) → P x → P y → P (by_answer s x y)
+unfolding by_answer
+by_either P (Began t) x y p q = p
+by_either P UnderWay x y p q = q
 
--- the state that a waiting commit leads to
-commit_state : (d : Driver) → (commits_first d).driver.state ≡ CONFIG_SHORT0_SET
-unfolding register_transfer
-commit_state d = either (λ (s : Started). s.driver.state ≡ CONFIG_SHORT0_SET) _ _ _ refl refl
+-- so of a commit's start: what holds of its first write and of the driver as it is
+pub commit_by : (P : Outcome → Type 0) (d : Driver) → P (table_write first_write d) → P (quiet d (actions [])) → P (start_commit d)
+unfolding start_commit
+commit_by P d p q = by_either P _ _ _ p q
 
-module _ (P : Outcome → Type 0) (of : OfSteps P) where
+-- what holds of every step that shows nothing
+abbrev pub OfSilent : (Outcome → Type 0) → Type 0
+OfSilent P = (d : Driver) (t : Option Transfer) → P (done_step d t (actions []))
+
+module _ (P : Outcome → Type 0) (silent : OfSilent P) where
   pub every_firing : (d : Driver) → P (handle_interrupt d)
   unfolding handle_interrupt
-  every_firing d = either P _ _ _ (either P _ _ _ (of.silent _ _) (of.silent _ _)) (of.silent _ _)
+  every_firing d = either P _ _ _ (either P _ _ _ (silent _ _) (silent _ _)) (silent _ _)
 
-  -- with a fact that the state's own case may use, and that holds in CONFIG_SHORT0_SET
-  pub silent_ends : (G : Driver → Type 0) → ((d : Driver) → d.state ≡ CONFIG_SHORT0_SET → G d)
-      → ((a : Arrived) (d : Driver) → G d → P (own_case a d))
-      → Ends P G
-  silent_ends G short case =
+  -- with a fact that the state's own case may use
+  pub silent_ends : (G : Driver → Type 0) → ((a : Arrived) (d : Driver) → G d → P (own_case a d)) → Ends P G
+  silent_ends G case =
       record {
         fires = λ d g. every_firing d;
-        sends = λ d g s. of.silent _ _;
-        waits = λ d g. of.silent _ _;
-        commits = λ a d g. of.falls _ _ (case a _ (short _ (commit_state d)));
+        sends = λ d g s. silent _ _;
+        waits = λ d g. silent _ _;
+        commits = λ d g. commit_by P d (silent _ _) (silent _ _);
         case = case;
       }
 
   pub every_completion : ((a : Arrived) (d : Driver) → P (own_case a d)) → (a : Arrived) (d : Driver) → P (completed a d)
   every_completion case a d =
       completion_by P (λ e. Unit {0}) (record { flags = λ f e s h g. tt; moves = λ b e g. tt; reads = λ e h g. tt })
-      (silent_ends (λ e. Unit {0}) (λ e q. tt) (λ b e g. case b e)) a d tt
+      (silent_ends (λ e. Unit {0}) (λ b e g. case b e)) a d tt
 
 -- what holds of every step with these actions holds of every access
 pub every_access : (P : Outcome → Type 0) (a : Arrived) (l : Actions) (d : Driver) → ((e : Driver) (t : Option Transfer) → P (done_step e t l))

@@ -191,10 +191,10 @@ pub to_60 : Follows resting always (λ c. fit (accessing 60 c))
 unfolding fit
 to_60 = law tt
 
--- a commit that waited falls on into 46
-pub to_46 : Follows resting always (λ c. fit (accessing 46 c))
+-- a commit starts
+pub to_45 : Follows resting always (λ c. fit (accessing 45 c))
 unfolding fit
-to_46 = law tt
+to_45 = law tt
 
 -- the end of a frame
 pub to_62 : Follows resting (λ c. c.rx) (λ c. fit (at 62 c))
@@ -264,11 +264,6 @@ join_30 = law tt
 pub unsent : Follows any always (λ c. fit (flags false c.handles c))
 unfolding fit
 unsent = law tt
-
--- commit
-pub join_45 : Follows any (λ c. eqb c.state 29) (λ c. fit (join 45 c))
-unfolding fit
-join_45 = law tt
 
 -- `transmit` finds nothing to transmit
 abbrev pub unused : Test

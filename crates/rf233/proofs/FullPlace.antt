@@ -47,7 +47,7 @@ use Rattle.rf233.specs.declared.driver.Buffers.{Buffers}
 use Rattle.rf233.specs.declared.driver.Driver.{Driver}
 use Rattle.rf233.specs.declared.state.InternalState.{InternalState}
 use Rattle.rf233.proofs.ChoiceLaws.{either}
-use Rattle.rf233.proofs.EveryStep.{OfSteps, Kept, silent_ends, completion_by}
+use Rattle.rf233.proofs.EveryStep.{OfSilent, Kept, silent_ends, completion_by}
 use Rattle.rf233.proofs.Facts.{Facts, kind, frame_of, frame_no_lem, of, back, over_is}
 use Rattle.rf233.proofs.Fit as fit
 use Rattle.rf233.proofs.Fit.{framed, all_facts, facts_at}
@@ -189,15 +189,15 @@ module _ (d : Driver) (e : described d ≡ false) where
   unfit : frame_unfit b.under n h ≡ false
   unfit = none_left (frame_unfit b.under n h) (buffer_missing b n) last_clauses
 
-  names : eqb (frame_no b.under) (state_frame n) ≡ true
-  names = not-false (eqb (frame_no b.under) (state_frame n)) (none_left (not (eqb (frame_no b.under) (state_frame n))) _ unfit)
+  pub frame_named : eqb (frame_no b.under) (state_frame n) ≡ true
+  frame_named = not-false (eqb (frame_no b.under) (state_frame n)) (none_left (not (eqb (frame_no b.under) (state_frame n))) _ unfit)
 
   over : Holds (transfer_over d)
   over =
       let c = of d in
       let with-frame = ltb 0 (frame_no b.under) && h in
       let found : T (not (gone c)) = rw (none_right (frame_unfit b.under n h) (buffer_missing b n) last_clauses) tt in
-      let framed-so : T (framed c) = rw (← frame_no_lem b.under, names) tt in
+      let framed-so : T (framed c) = rw (← frame_no_lem b.under, frame_named) tt in
       let clear : T (not (ltb 0 (frame_of (kind b.under)) && h)) =
       rw (← frame_no_lem b.under, none_right (not (eqb (frame_no b.under) (state_frame n))) with-frame unfit) tt in
       subst (λ c. T (not (gone c))) (sym (over_is d))
@@ -205,9 +205,9 @@ module _ (d : Driver) (e : described d ≡ false) where
       (apply (not (ltb 0 (frame_of (kind b.under)) && h)) _
       (facts_at fit.any return_test return_keeps c (state_below d.state) tt framed-so) clear) found)
 
--- whatever holds of steps that carry no row out, and of a row carried out with its places full, holds of every completion of a driver value
--- that 12 does not describe
-pub unwrap_holds : (P : Outcome → Type 0) → OfSteps P → ((a : Arrived) (d : Driver) → Full (row_of a d) d → P (own_case a d))
+-- whatever holds of every step that shows nothing, and of a row carried out with its places full, holds of every completion of a driver
+-- value that 12 does not describe
+pub unwrap_holds : (P : Outcome → Type 0) → OfSilent P → ((a : Arrived) (d : Driver) → Full (row_of a d) d → P (own_case a d))
     → (a : Arrived) (d : Driver) → described d ≡ false → P (completed a d)
-unwrap_holds P of row a d e =
-    completion_by P Holds kept (silent_ends P of Holds (λ d e. rw e tt) (λ a d h. row a d (full a d h))) a d (over d e)
+unwrap_holds P silent row a d e =
+    completion_by P Holds kept (silent_ends P silent Holds (λ a d h. row a d (full a d h))) a d (over d e)

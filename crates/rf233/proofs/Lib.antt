@@ -13,9 +13,12 @@ pub mod Accepted
 pub mod StartupClaim
 pub mod Starred
 pub mod StarredProofs
+pub mod StarredCommit
 pub mod OwnBuffers
 pub mod StarredSteps
 pub mod StarredOccur
+pub mod CommitLaws
+pub mod CommitClaim
 pub mod Twice
 pub mod Regrouped
 pub mod FullPlace

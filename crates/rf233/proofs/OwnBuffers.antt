@@ -5,20 +5,21 @@ use mathlib.Core.Bool.{Bool, true, false, not, ◌&&◌, ◌||◌, and-false}
 use mathlib.Core.List.{[], ◌∷◌}
 use Prim.Native.Nat.{ℕ, ◌≤◌, ◌<◌}
 use native.Mathlib.Omega.{arith}
-use lib.Dec.{leb, ltb, lit<}
+use lib.Dec.{eqb, leb, ltb, lit<}
 use borrow.Author.Tests.{ne_eqb, ltb-true, ltb-false, leb-true, le-leb, not-false}
 use Rattle.std.specs.Prelude.{Option, None, Some}
 use Rattle.rf233.specs.Choice.{pick, one_of, within}
 use Rattle.rf233.specs.Create.{new_driver}
-use Rattle.rf233.specs.Described.{described, slot_above, client_above, recorded_twice, own_nowhere, twice_below}
+use Rattle.rf233.specs.Described.{described, slot_above, client_above, recorded_twice, own_nowhere, twice_below, frame_no}
 use Rattle.rf233.specs.Record.{count_of, slot_has, under_has, own_has, one, record_has}
 use Rattle.rf233.specs.State.{state_no, state_frame}
 use Rattle.rf233.specs.Starter.{buffers_away, refrains, register_transfer}
-use Rattle.rf233.specs.Transfer.{free_to_start}
+use Rattle.rf233.specs.Transfer.{under_way, free_to_start}
 use Rattle.rf233.specs.declared.driver.Buffers.{Buffers}
 use Rattle.rf233.specs.declared.driver.Driver.{Driver}
 use Rattle.rf233.specs.declared.driver.Lent.{Lent}
-use Rattle.rf233.specs.declared.driver.Under.TheVariants.{Register, FrameRead}
+use Rattle.rf233.specs.declared.driver.Under.{Under}
+use Rattle.rf233.specs.declared.driver.Under.TheVariants.{Idle, Register, FrameRead}
 use Rattle.rf233.specs.declared.transfer.TransferKind.{TransferKind}
 use Rattle.laws.proofs.Logic.{none_left, none_right, both_left}
 
@@ -121,6 +122,13 @@ module _ (d : Driver) (f : described d ≡ false) where
       let e = none_right (slot_above r.rx_buf) _ (none_right (slot_above r.tx_buf) _ above) in
       let c = ltb-false 15 x.buffer (rw u at e) in
       (tx_home (rw (u, ne_eqb x.buffer 16 (λ q. omega arith))), rx_home (rw (u, ne_eqb x.buffer 17 (λ q. omega arith))))
+
+-- no transfer is under way; one is, and it is no frame transfer
+pub idle_is : (u : Under) → not (under_way u) ≡ true → u ≡ Idle
+idle_is u e = grind arith
+
+pub register_is : (u : Under) → under_way u ≡ true → eqb (frame_no u) 0 ≡ true → u ≡ Register
+register_is u e f = grind arith
 
 -- where none may begin, a register transfer does not
 pub register_refrains : (d : Driver) (k : TransferKind) (x y : ℕ) → free_to_start d.buffers ≡ false → register_transfer k x y d ≡ refrains d

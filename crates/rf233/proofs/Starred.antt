@@ -1,10 +1,11 @@
--- Document 01, "Corners in rf233.rs": the cases marked *, as one table in document 01's order. Each line quotes its corner and says it
--- of the definitions that the public calls promise, for every driver, pool and bytes that meet the corner's condition. The theorem
--- `starred` of StarredProofs.antt proves the table; StarredOccur.antt shows that its conditions occur. Assumes nothing.
+-- Document 01, "Corners in rf233.rs": the cases marked *, as one table in document 01's order, those on the PAN and on a commit as request
+-- 2026-02 has altered them. Each line quotes its corner, or the request's words, and says it of the definitions that the public calls
+-- promise, for every driver, pool and bytes that meet the corner's condition. The theorem `starred` of StarredProofs.antt proves the
+-- table; StarredOccur.antt shows that its conditions occur. Assumes nothing.
 use mathlib.Core.Path.{◌≡◌}
 use mathlib.Core.Bool.{Bool, true, false}
 use mathlib.Core.List.{List, [], ◌∷◌, map}
-use Prim.Native.Nat.{ℕ, zero, suc, ◌+◌, ◌≤◌}
+use Prim.Native.Nat.{ℕ, zero, suc, ◌+◌, ◌/◌, ◌%◌, ◌≤◌}
 use lib.IntN.{ℤ, pos}
 use lib.ListN.{length, get_or}
 use Rattle.std.specs.Prelude.{Option, None, Some, option_map}
@@ -15,7 +16,8 @@ use Rattle.rf233.specs.Step.{quiet}
 use Rattle.rf233.specs.Answer.{refused}
 use Rattle.rf233.specs.Guard.{Called, refusing}
 use Rattle.rf233.specs.Config.{start_call, commit_call, set_power}
-use Rattle.rf233.specs.Driver.{with_settings, with_tx_power}
+use Rattle.rf233.specs.Driver.{with_settings, with_tx_power, flagged}
+use Rattle.rf233.specs.Driver.Flag.{config_pending}
 use Rattle.rf233.specs.Kernel.{completion_call, arrived_bad}
 use Rattle.rf233.specs.Data.{transmit_call}
 use Rattle.rf233.specs.Create.{new_call}
@@ -28,6 +30,7 @@ use Rattle.rf233.specs.Transfer.{transfer_of, free_to_start}
 use Rattle.rf233.specs.declared.action.Action.TheVariants.{Sent}
 use Rattle.rf233.specs.declared.answer.Answer.TheVariants.{Done}
 use Rattle.rf233.specs.declared.driver.Driver.{Driver}
+use Rattle.rf233.specs.declared.driver.Settings.{Settings}
 use Rattle.rf233.specs.declared.driver.Under.{Under}
 use Rattle.rf233.specs.declared.driver.Under.TheVariants.{Idle, Register, FrameRead}
 use Rattle.rf233.specs.declared.transfer.Transfer.{Transfer}
@@ -129,9 +132,24 @@ unfoldable pub run : (ℕ → List ℕ) → ℕ → Called → Called
 run ys zero c = c
 run ys (suc k) c = completion_call (run ys k c).outcome.driver (ys k) (run ys k c).pool
 
--- the first byte that is sent, where the call starts a transfer
-abbrev pub first_sent : Called → Option ℕ
-first_sent c = option_map (λ (t : Transfer). t.first) c.outcome.reply.transfer
+-- the first two bytes that are sent, where the call starts a transfer
+abbrev pub bytes_sent : Called → Option (ℕ × ℕ)
+bytes_sent c = option_map (λ (t : Transfer). (t.first, t.second)) c.outcome.reply.transfer
+
+-- both bytes of the short address 0xABCD are written: this step sends the low one and shows nothing, the next completion sends the high one
+pub record BothBytes (c : Called) : Type 0 where
+  pub low : Writes 0xE0 0xCD 45 c
+  pub shows_nothing : c.outcome.reply.actions ≡ actions []
+  pub high : (ys : List ℕ) → length ys ≡ 2 → Writes 0xE1 0xAB 46 (completion_call c.outcome.driver ys c.pool)
+
+-- what a commit sends from its first write on, by these settings with the address 0xABCD, until TRX_STATUS is read
+abbrev pub commit_sends : Settings → List (ℕ × ℕ)
+commit_sends s =
+    (0xE0, 0xCD) ∷ (0xE1, 0xAB) ∷ (0xE2, s.pan % 256) ∷ (0xE3, s.pan / 256)
+    ∷ (0xE4, get_or s.addr_long 0 0) ∷ (0xE5, get_or s.addr_long 1 0) ∷ (0xE6, get_or s.addr_long 2 0)
+    ∷ (0xE7, get_or s.addr_long 3 0) ∷ (0xE8, get_or s.addr_long 4 0) ∷ (0xE9, get_or s.addr_long 5 0)
+    ∷ (0xEA, get_or s.addr_long 6 0) ∷ (0xEB, get_or s.addr_long 7 0)
+    ∷ (0xC5, power_to_setting s.tx_power) ∷ (0xC8, s.channel) ∷ (0x81, 0x00) ∷ []
 
 pub record StarredCases : Type 0 where
   -- "`setting_to_power`: 0x0F gives -17, 0x10 gives -127."
@@ -153,34 +171,38 @@ pub record StarredCases : Type 0 where
   pub new_start : (l c : ℕ) (p : List ℕ) → length p ≡ 3040 → Reads 0x9C 0x00 0 (start_call (new_call l c).driver p)
   -- "From SLEEP, no transfer under way, it sends 0x81 0x00 and enters 32."
   pub sleep_start : (d : Driver) (p : List ℕ) → Passes12 d p → In 31 d → d.buffers.under ≡ Idle → Reads 0x81 0x00 32 (start_call d p)
-  -- "PAN 0x1234: startup sends 0xE2 0x12, 0xE3 0x34;"
+  -- 2026-02: "The datasheet puts the low byte in PAN_ID_0, so startup shall too." PAN 0x1234: startup sends 0xE2 0x34, 0xE3 0x12;
   pub startup_pan_0 : (d : Driver) (xs p : List ℕ) → Completes Register 10 d xs p → d.settings.pan ≡ 0x1234
-      → Writes 0xE2 0x12 11 (completion_call d xs p)
+      → Writes 0xE2 0x34 11 (completion_call d xs p)
   pub startup_pan_1 : (d : Driver) (xs p : List ℕ) → Completes Register 11 d xs p → d.settings.pan ≡ 0x1234
-      → Writes 0xE3 0x34 12 (completion_call d xs p)
+      → Writes 0xE3 0x12 12 (completion_call d xs p)
   -- "a commit sends 0xE2 0x34, 0xE3 0x12."
   pub commit_pan_0 : (d : Driver) (xs p : List ℕ) → Completes Register 46 d xs p → d.settings.pan ≡ 0x1234
       → Writes 0xE2 0x34 47 (completion_call d xs p)
   pub commit_pan_1 : (d : Driver) (xs p : List ℕ) → Completes Register 47 d xs p → d.settings.pan ≡ 0x1234
       → Writes 0xE3 0x12 48 (completion_call d xs p)
-  -- "Address 0xABCD, commit waiting when READY completes with no interrupt pending: 0xE0 0xCD goes out, the step falls on to the next
-  -- case,"
+  -- 2026-02: "A waiting commit [...] shall write both short address bytes: the step that starts the first write ends there". Address
+  -- 0xABCD, commit waiting when READY completes with no interrupt pending:
   pub waiting_commit_lem : (d : Driver) (xs p : List ℕ) → Completes Register 29 d xs p → d.flags.config_pending ≡ true
       → d.settings.addr ≡ 0xABCD
-      → Writes 0xE0 0xCD 46 (completion_call d xs p)
-  -- "and SHORT_ADDR_1 is never written." The first bytes that the whole commit sends, until the driver is in READY again: no 0xE1
+      → BothBytes (completion_call d xs p)
+  -- and the whole run of its writes, until the driver is in READY again
   pub waiting_commit_run : (d : Driver) (xs p : List ℕ) (ys : ℕ → List ℕ) → Completes Register 29 d xs p → d.flags.config_pending ≡ true
-      → ((k : ℕ) → length (ys k) ≡ 2)
-      → (map (λ k. first_sent (run ys k (completion_call d xs p))) (range 0 14)
-      ≡ map Some (0xE0 ∷ 0xE2 ∷ 0xE3 ∷ 0xE4 ∷ 0xE5 ∷ 0xE6 ∷ 0xE7 ∷ 0xE8 ∷ 0xE9 ∷ 0xEA ∷ 0xEB ∷ 0xC5 ∷ 0xC8 ∷ 0x81 ∷ []))
-      × In 29 (run ys 13 (completion_call d xs p)).outcome.driver
-  -- "A commit called in READY during a transfer skips SHORT_ADDR_0 instead." It starts nothing, and the next completion writes SHORT_ADDR_1
+      → d.settings.addr ≡ 0xABCD → ((k : ℕ) → length (ys k) ≡ 2)
+      → (map (λ k. bytes_sent (run ys k (completion_call d xs p))) (range 0 15) ≡ map Some (commit_sends d.settings))
+      × In 29 (run ys 14 (completion_call d xs p)).outcome.driver
+  -- 2026-02: "and a busy call only leaves the commit waiting." In READY, whatever transfer is under way: nothing is sent, and nothing but
+  -- the pending commit changes
   pub commit_during : (d : Driver) (p : List ℕ) → Passes12 d p → In 29 d → d.flags.config_pending ≡ false
       → free_to_start d.buffers ≡ false
-      → ((commit_call d p).outcome.reply.transfer ≡ None) × In 45 (commit_call d p).outcome.driver
-  pub commit_during_next : (d : Driver) (xs p : List ℕ) → Completes Register 29 d xs p → d.flags.config_pending ≡ false
+      → commit_call d p ≡ record { outcome = quiet (flagged config_pending true d) (actions []); pool = p }
+  -- both bytes go out once READY completes, after a register transfer and after a read of IRQ_STATUS
+  pub commit_during_access : (d : Driver) (xs p : List ℕ) → Completes Register 29 d xs p → d.flags.config_pending ≡ false
       → d.settings.addr ≡ 0xABCD
-      → Writes 0xE1 0xAB 46 (completion_call (commit_call d p).outcome.driver xs (commit_call d p).pool)
+      → BothBytes (completion_call (commit_call d p).outcome.driver xs (commit_call d p).pool)
+  pub commit_during_interrupt : (d : Driver) (xs p : List ℕ) → Detours 29 d xs p → d.flags.config_pending ≡ false
+      → d.settings.addr ≡ 0xABCD
+      → BothBytes (completion_call (commit_call d p).outcome.driver xs (commit_call d p).pool)
   -- "TX_RETURN_TO_RX, status 0x16: result 0x00 gives ack and success; 0x20 no ack, success; 0x60 no ack, FAIL."
   pub result_00 : Told 0x00 true false
   pub result_20 : Told 0x20 false false

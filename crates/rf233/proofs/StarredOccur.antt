@@ -6,6 +6,7 @@ use mathlib.Core.List.{List, [], ◌∷◌}
 use Prim.Native.Nat.{ℕ}
 use lib.Dec.{lit≤}
 use lib.ListN.{replicate, length-replicate}
+use Rattle.rf233_const.specs.Bits.{bit_set}
 use Rattle.rf233.specs.Create.{new_driver}
 use Rattle.rf233.specs.Driver.{flagged, with_state, with_settings, with_addr, with_pan, with_buffers}
 use Rattle.rf233.specs.Driver.{with_registers, with_spi_buf, with_spi_buf_len, with_tx, with_rx, with_tx_len, with_under}
@@ -60,6 +61,24 @@ registers : (n : ℕ) (w : Bool) (s : InternalState) → In n (during w s) → d
 registers n w s i e =
     record { passes = passes (during w s) e; state = i; is_under_way = refl; arrived = refl; handling = refl; pending = refl }
 
+-- a read of IRQ_STATUS under way, with this receive place
+abbrev detouring : InternalState → Option Lent → Driver
+detouring s y = example s false true false true None y Register
+
+detours : (n : ℕ) (s : InternalState) (y : Option Lent) (r : ℕ) → In n (detouring s y) → described (detouring s y) ≡ false → bit_set 2 r ≡ false
+    → Detours n (detouring s y) (0 ∷ r ∷ []) pool
+detours n s y r i e b =
+    record {
+      passes = passes (detouring s y) e;
+      state = i;
+      is_under_way = refl;
+      arrived = refl;
+      handling = refl;
+      pending = refl;
+      no_start = b;
+      no_frame_lem = refl;
+    }
+
 pub record Occurs : Type 0 where
   pub sleeping : Passes12 (example SLEEP false false true true None None Idle) pool
   pub sendable : MaySend (example READY false false true true None None Idle) 3 pool
@@ -72,7 +91,8 @@ pub record Occurs : Type 0 where
   pub in_43 : Completes Register 43 (example TX_RETURN_TO_RX false false false true (Some (lent 3 130)) None Register) (0x16 ∷ 0x60 ∷ []) pool
   pub in_63 : Completes (FrameRead (lent 4 129)) 63 (example RX_READING_FRAME_LEN false false true false None None (FrameRead (lent 4 129)))
       (0 ∷ 127 ∷ []) pool
-  pub in_64 : Detours 64 (example RX_READING_FRAME_LEN_DONE false true false true None (Some (lent 4 129)) Register) (0 ∷ 11 ∷ []) pool
+  pub in_29_detour : Detours 29 (detouring READY None) (0 ∷ 0 ∷ []) pool
+  pub in_64 : Detours 64 (detouring RX_READING_FRAME_LEN_DONE (Some (lent 4 129))) (0 ∷ 11 ∷ []) pool
 
 pub occurs : Occurs
 unfolding described count_of
@@ -97,15 +117,6 @@ occurs =
       in_47 = registers 47 _ _ refl refl;
       in_43 = record { passes = passes _ refl; state = refl; is_under_way = refl; arrived = refl; handling = refl; pending = refl };
       in_63 = record { passes = passes _ refl; state = refl; is_under_way = refl; arrived = refl; handling = refl; pending = refl };
-      in_64 =
-          record {
-            passes = passes _ refl;
-            state = refl;
-            is_under_way = refl;
-            arrived = refl;
-            handling = refl;
-            pending = refl;
-            no_start = refl;
-            no_frame_lem = refl;
-          };
+      in_29_detour = detours 29 READY None 0 refl refl refl;
+      in_64 = detours 64 RX_READING_FRAME_LEN_DONE (Some (lent 4 129)) 11 refl refl refl;
     }

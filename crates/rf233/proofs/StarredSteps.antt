@@ -15,7 +15,8 @@ use Rattle.rf233_const.specs.Register.{register_address}
 use Rattle.rf233_const.specs.declared.register.RF233Register.{RF233Register}
 use Rattle.rf233.specs.Choice.{pick}
 use Rattle.rf233.specs.Guard.{Called, stepping, guarded}
-use Rattle.rf233.specs.Kernel.{completing, completion_call}
+use Rattle.rf233.specs.Described.{described}
+use Rattle.rf233.specs.Kernel.{completing, completion_call, arrived_bad}
 use Rattle.rf233.specs.Completion.{completed, ready_bookkeeping, pending_interrupt, waiting_commit, frame_done, transfer_over}
 use Rattle.rf233.specs.Case.{case_of, perform, tree_at}
 use Rattle.rf233.specs.Pool.{command_written, copied, read_buffer, shorter}
@@ -24,8 +25,9 @@ use Rattle.rf233.specs.Rows.Access.{writes}
 use Rattle.rf233.specs.Rows.Next.{to}
 use Rattle.rf233.specs.Rows.Row.{does}
 use Rattle.rf233.specs.Rows.Tree.{leaf}
+use Rattle.rf233.specs.StartupClaim.{accepted}
 use Rattle.rf233.specs.State.{state_no}
-use Rattle.rf233.specs.Transfer.{kind_value, transfer_of, under_way}
+use Rattle.rf233.specs.Transfer.{kind_value, transfer_of, under_way, to_complete}
 use Rattle.rf233.specs.Starter.{register_transfer}
 use Rattle.rf233.specs.Write.{value_of}
 use Rattle.rf233.specs.declared.answer.Outcome.{Outcome}
@@ -38,7 +40,7 @@ use Rattle.rf233.specs.declared.transfer.TransferKind.TheVariants as kind
 use Rattle.rf233.specs.declared.write.Value.{Value}
 use Rattle.rf233.specs.declared.state.InternalState.{InternalState}
 use Rattle.laws.proofs.Logic.{none_right}
-use Rattle.rf233.proofs.Accepted.{arrived}
+use Rattle.rf233.proofs.Accepted.{arrived, done_is_accepted, done_completed}
 use Rattle.rf233.proofs.OwnBuffers.{Plain, moved, same_record}
 use Rattle.rf233.proofs.PoolLaws.{command_written_length, copied_length}
 use Rattle.rf233.proofs.Sound.{read_fits, shorter_fits}
@@ -70,8 +72,13 @@ sends {k} {first} {second} o q l f t s =
 abbrev pub brought : Driver → List ℕ → List ℕ → List ℕ
 brought d xs p = copied (read_buffer d.buffers.under) xs p
 
--- a completion that is not refused
-module _ {u : Under} {n : ℕ} {d : Driver} {xs p : List ℕ} (h : Completes u n d xs p) where
+-- none of 12, 11 and 13 refuses the completion
+pub record Accepts (d : Driver) (xs p : List ℕ) : Type 0 where
+  pub passes : Passes12 d p
+  pub to_complete_lem : to_complete d.buffers ≡ true
+  pub arrived : arrived_bad xs d.buffers ≡ false
+
+module _ {d : Driver} {xs p : List ℕ} (h : Accepts d xs p) where
   pub still : length (brought d xs p) ≡ 3040
   still =
       copied_length (read_buffer d.buffers.under) xs p
@@ -79,16 +86,25 @@ module _ {u : Under} {n : ℕ} {d : Driver} {xs p : List ℕ} (h : Completes u n
       omega (arith, read_fits d h.passes.fit, shorter_fits d h.passes.fit, h.passes.pool))
       ∙ h.passes.pool
 
-  -- it is accepted, and the step is made
-  pub accepted_step : under_way u ≡ true → completion_call d xs p ≡ stepping (completed (arrived d xs p) d) (brought d xs p)
+  -- the step is made
+  pub accepted_step : completion_call d xs p ≡ stepping (completed (arrived d xs p) d) (brought d xs p)
   unfolding completion_call completing pick
-  accepted_step i = rw (unguarded d p _ h.passes, h.arrived, ap under_way h.is_under_way ∙ i)
+  accepted_step = rw (unguarded d p _ h.passes, h.arrived, h.to_complete_lem)
+
+  pub is_accepted : accepted (completion_call d xs p) ≡ true
+  is_accepted = ap accepted accepted_step ∙ done_is_accepted (completed (arrived d xs p) d) (done_completed (arrived d xs p) d)
+
+-- a completion while no interrupt is being handled or pending
+module _ {u : Under} {n : ℕ} {d : Driver} {xs p : List ℕ} (h : Completes u n d xs p) where
+  pub accepts : under_way u ≡ true → Accepts d xs p
+  accepts i = record { passes = h.passes; to_complete_lem = ap under_way h.is_under_way ∙ i; arrived = h.arrived }
 
   -- outside READY it is the own case of the state m that the transfer leaves
   pub straight : (m : ℕ) → under_way u ≡ true → state_no (frame_done false d.state) ≡ m → eqb m 29 ≡ false
       → completion_call d xs p ≡ stepping (case_of m (arrived d xs p) (transfer_over d)) (brought d xs p)
   unfolding completed ready_bookkeeping pending_interrupt waiting_commit pick
-  straight m i s e = rw (accepted_step i, h.handling, s, e, h.pending, and-false)
+  straight m i s e =
+      rw (accepted_step (accepts i), h.handling, s, e, h.pending, and-false)
 
 -- the end of a register transfer moves the state only where a state names a frame transfer
 unframed : (a b c : Bool) (x y z s : InternalState) → ◌≡◌ {A = ℕ} (cond a 2 (cond (b || (c || false)) 1 0)) 0
@@ -103,27 +119,23 @@ pub unmoved : (n : ℕ) (s : InternalState) → Plain n → state_no s ≡ n →
 unfolding frame_done pick
 unmoved n s c e = rw e (unframed (eqb n 34) (eqb n 63) (eqb n 65) _ _ _ s c.names)
 
--- a step that sends a register write and goes on from there: the record is as before, no interrupt is handled or pending
+-- a step that sends a register write and goes on from there: record and settings are as before, no interrupt is handled or pending
 pub record Goes (first second n : ℕ) (d : Driver) (c : Called) : Type 0 where
   pub sent : Sends kind.RegisterWrite first second n c
   pub pool : length c.pool ≡ 3040
   pub buffers : c.outcome.driver.buffers ≡ d.buffers
+  pub settings : c.outcome.driver.settings ≡ d.settings
   pub handling : c.outcome.driver.flags.interrupt_handling ≡ false
   pub pending : c.outcome.driver.flags.interrupt_pending ≡ false
 
 -- the next completion, of two bytes, finds what it needs
-pub next : {n m first second : ℕ} {d : Driver} {xs p : List ℕ} {c : Called} (ys : List ℕ) → Plain n → Plain m
-    → Completes Register n d xs p → Goes first second m d c
+pub next : {n m first second : ℕ} {d : Driver} {c : Called} (ys : List ℕ) → Plain n → Plain m → described d ≡ false → In n d
+    → d.buffers.under ≡ Register → Goes first second m d c
     → length ys ≡ 2 → Completes Register m c.outcome.driver ys c.pool
-next {n} {m} {d = d} {c = c} ys f g h e l =
-    let u = ap (λ (b : Buffers). b.under) e.buffers ∙ h.is_under_way in
+next {n} {m} {d = d} {c = c} ys f g fit s h e l =
+    let u = ap (λ (b : Buffers). b.under) e.buffers ∙ h in
     record {
-      passes =
-          record {
-            pool = e.pool;
-            fit = moved n m d c.outcome.driver f g h.state e.sent.state h.is_under_way e.buffers
-                ∙ h.passes.fit;
-          };
+      passes = record { pool = e.pool; fit = moved n m d c.outcome.driver f g s e.sent.state h e.buffers ∙ fit };
       state = e.sent.state;
       is_under_way = u;
       arrived = rw (u, l);
@@ -139,9 +151,10 @@ module _ {n : ℕ} {r : RF233Register} {v : Value} {s : InternalState} {d : Driv
   write_case c f t h =
       rw (straight h n refl (rw (unmoved n d.state c h.state) h.state) f, t)
       (record {
-        sent = sends _ _ (still h) refl (rw h.is_under_way) (rw h.is_under_way);
-        pool = command_written_length _ _ ∙ still h;
+        sent = sends _ _ (still (accepts h refl)) refl (rw h.is_under_way) (rw h.is_under_way);
+        pool = command_written_length _ _ ∙ still (accepts h refl);
         buffers = same_record d h.passes.fit _ h.is_under_way (rw h.is_under_way);
+        settings = rw h.is_under_way;
         handling = rw h.is_under_way;
         pending = rw h.is_under_way h.pending;
       })

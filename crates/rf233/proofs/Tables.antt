@@ -35,6 +35,13 @@ in_range_lem f g lo len n h p q =
     let l : k < len = omega arith in
     subst (λ (m : ℕ). f m ≡ g m) e (sym (listed f lo len k (f n) l) ∙ ap (λ (xs : List _). get_or xs k (f n)) h ∙ listed g lo len k (f n) l)
 
+-- and two that agree at each of the numbers have the same list
+pub same_list : {A : Type 0} (f g : ℕ → A) (lo len : ℕ) → ((n : ℕ) → lo ≤ n → n < lo + len → f n ≡ g n)
+    → map f (range lo len) ≡ map g (range lo len)
+same_list f g lo zero h = refl
+same_list f g lo (suc len) h =
+    rw (h lo (omega arith) (omega arith), same_list f g (suc lo) len (λ n p q. h n (omega arith) (omega arith)))
+
 -- the table, whose row k is `at k`, has the writes of the states from lo on, where state n has row n - off
 pub table_case : (at : ℕ → Write) (off lo len : ℕ) → map tree_at (range lo len) ≡ map (λ n. write (at (n - off))) (range lo len)
     → (a : Arrived) (d : Driver) (n : ℕ) → n ≡ state_no d.state → lo ≤ n → n < lo + len → table_write (at (n - off)) d ≡ own_case a d

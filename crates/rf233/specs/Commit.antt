@@ -1,6 +1,7 @@
--- A commit, the states 45 to 58: the table of its writes, and the case of each state.
+-- A commit: how it starts, the table of its writes, and the cases of its states, 45 to 58.
 use Rattle.std.specs.Prelude.{ℕ, false, List, [], ◌∷◌, ◌++◌, map}
 use Rattle.rf233_const.specs.declared.register.RF233Register.TheVariants as register
+use Rattle.rf233.specs.Action.{actions}
 use Rattle.rf233.specs.Driver.Assignment.{put}
 use Rattle.rf233.specs.Driver.Flag.{config_pending}
 use Rattle.rf233.specs.Rows.{Tree, write}
@@ -9,10 +10,23 @@ use Rattle.rf233.specs.Rows.Next.{to}
 use Rattle.rf233.specs.Rows.Row.{does}
 use Rattle.rf233.specs.Rows.Shown.{config_done}
 use Rattle.rf233.specs.Rows.Tree.{leaf}
-use Rattle.rf233.specs.Write.{row, row_at}
+use Rattle.rf233.specs.Step.{step_of, quiet, by_answer}
+use Rattle.rf233.specs.Write.{row, row_at, row_starter}
+use Rattle.rf233.specs.declared.answer.Outcome.{Outcome}
+use Rattle.rf233.specs.declared.driver.Driver.{Driver}
 use Rattle.rf233.specs.declared.state.InternalState.TheVariants as state
-use Rattle.rf233.specs.declared.write.Value.TheVariants.{Channel, Power, PanHigh, PanLow, AddrHigh, Long}
+use Rattle.rf233.specs.declared.write.Value.TheVariants.{Channel, Power, PanHigh, PanLow, AddrHigh, AddrLow, Long}
 use Rattle.rf233.specs.declared.write.Write.{Write}
+
+-- the first write of a commit: the low byte of the short address (the datasheet's SHORT_ADDR_0)
+abbrev pub first_write : Write
+first_write = row register.SHORT_ADDR_0 AddrLow state.CONFIG_SHORT0_SET
+
+-- a commit starts with its first write, and the step ends there; where a transfer is under way the commit only waits (request 2026-02)
+unfoldable pub start_commit : Driver → Outcome
+start_commit d =
+    let first = row_starter first_write d in
+    by_answer first.answer (step_of first (actions [])) (quiet d (actions []))
 
 -- what is written in the states 45 to 57
 abbrev pub commit_table : List Write

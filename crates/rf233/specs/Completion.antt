@@ -1,9 +1,10 @@
 -- The order of a completion (document 01, "What a step does"): buffer return, interrupt result, READY bookkeeping, pending interrupt,
 -- waiting commit, the state's own case. Each phase stands behind the one that it hands on to.
 use Rattle.std.specs.Prelude.{ℕ, Bool, true, false, not, ◌&&◌, ◌||◌, [], ◌∷◌, eqb, Some, is_some}
-use Rattle.rf233_const.specs.declared.register.RF233Register.TheVariants.{MIN, TRX_STATUS, SHORT_ADDR_0}
+use Rattle.rf233_const.specs.declared.register.RF233Register.TheVariants.{MIN, TRX_STATUS}
 use Rattle.rf233.specs.Case.{own_case}
 use Rattle.rf233.specs.Choice.{pick, one_of}
+use Rattle.rf233.specs.Commit.{start_commit}
 use Rattle.rf233.specs.Driver.{flag, flagged, assigning, with_state, with_buffers, in_no}
 use Rattle.rf233.specs.Driver.{with_registers, with_spi_buf, with_tx, with_rx, with_under}
 use Rattle.rf233.specs.Driver.Assignment.{put}
@@ -19,8 +20,7 @@ use Rattle.rf233.specs.Driver.Flag.{
 }
 use Rattle.rf233.specs.Interrupt.{handle_interrupt, rx_start, trx_end, interrupt_state}
 use Rattle.rf233.specs.State.{state_no}
-use Rattle.rf233.specs.Step.{done_step, transition_read, transition_write}
-use Rattle.rf233.specs.Write.{value_of}
+use Rattle.rf233.specs.Step.{transition_read}
 use Rattle.rf233.specs.declared.answer.Outcome.{Outcome}
 use Rattle.rf233.specs.declared.arrived.Arrived.{Arrived}
 use Rattle.rf233.specs.declared.driver.Buffers.{Buffers}
@@ -28,20 +28,12 @@ use Rattle.rf233.specs.declared.driver.Driver.{Driver}
 use Rattle.rf233.specs.declared.driver.Under.{Under}
 use Rattle.rf233.specs.declared.driver.Under.TheVariants.{Idle, Register, FrameRead, FrameWrite}
 use Rattle.rf233.specs.declared.state.InternalState.{InternalState}
-use Rattle.rf233.specs.declared.state.InternalState.TheVariants.{READY, CONFIG_SHORT0_SET, TX_STATUS_PRECHECK1}
+use Rattle.rf233.specs.declared.state.InternalState.TheVariants.{READY, TX_STATUS_PRECHECK1}
 use Rattle.rf233.specs.declared.state.InternalState.TheVariants as state
-use Rattle.rf233.specs.declared.write.Value.TheVariants.{AddrLow}
 
--- a step that begins a transfer and falls on into the next state's case, which finds it under way
-abbrev pub falls_on : Outcome → Outcome → Outcome
-falls_on first next = done_step next.driver first.reply.transfer next.reply.actions
-
--- waiting commit: it starts its first write in READY; the step then falls on into the case of CONFIG_SHORT0_SET, whose write finds that
--- transfer under way, so that SHORT_ADDR_1 is never written
+-- waiting commit: in READY it starts, and READY's own case is not taken in that step (request 2026-02)
 unfoldable pub waiting_commit : Arrived → Driver → Outcome
-waiting_commit a d =
-    let first = transition_write SHORT_ADDR_0 (value_of AddrLow d.settings) CONFIG_SHORT0_SET d in
-    pick (flag config_pending d.flags && in_no 29 d) (falls_on first (own_case a first.driver)) (own_case a d)
+waiting_commit a d = pick (flag config_pending d.flags && in_no 29 d) (start_commit d) (own_case a d)
 
 -- a pending interrupt is put off in 60, 62, 66 and 67
 abbrev pub puts_off : ℕ → Bool

@@ -2,24 +2,23 @@
 -- refusals is document 01's ("Who can cause which refusal").
 use Rattle.std.specs.Prelude.{ℕ, Bool, true, false, not, List, [], ◌∷◌, ℤ}
 use Rattle.rf233_const.specs.TrxState.{command_value}
-use Rattle.rf233_const.specs.declared.register.RF233Register.TheVariants.{PART_NUM, TRX_STATUS, TRX_STATE, SHORT_ADDR_0}
+use Rattle.rf233_const.specs.declared.register.RF233Register.TheVariants.{PART_NUM, TRX_STATUS, TRX_STATE}
 use Rattle.rf233_const.specs.declared.trx_state.RF233TrxCmd.TheVariants as cmd
 use Rattle.rf233.specs.Action.{actions}
 use Rattle.rf233.specs.Step.{step_of, quiet, transition_read, transition_write}
 use Rattle.rf233.specs.Answer.{refused}
 use Rattle.rf233.specs.Choice.{pick, one_of, within}
+use Rattle.rf233.specs.Commit.{start_commit}
 use Rattle.rf233.specs.Driver.{flag, flagged, in_no, with_addr, with_addr_long, with_pan, with_tx_power, with_channel, with_settings}
 use Rattle.rf233.specs.Driver.Flag.{radio_on, transmitting, config_pending, sleep_pending, wake_pending}
 use Rattle.rf233.specs.Guard.{Called, refusing, stepping, guarded}
 use Rattle.rf233.specs.Power.{power_fits}
 use Rattle.rf233.specs.State.{state_no}
 use Rattle.rf233.specs.Starter.{register_read}
-use Rattle.rf233.specs.Write.{value_of}
 use Rattle.rf233.specs.declared.action.Action.TheVariants.{ResetMakeOutput, SleepMakeOutput, ResetClear, ResetSet, SleepClear}
 use Rattle.rf233.specs.declared.answer.Outcome.{Outcome}
 use Rattle.rf233.specs.declared.driver.Driver.{Driver}
-use Rattle.rf233.specs.declared.state.InternalState.TheVariants.{SLEEP_WAKE, SLEEP_TRX_OFF, CONFIG_SHORT0_SET}
-use Rattle.rf233.specs.declared.write.Value.TheVariants.{AddrLow}
+use Rattle.rf233.specs.declared.state.InternalState.TheVariants.{SLEEP_WAKE, SLEEP_TRX_OFF}
 
 -- a start that is not refused: from SLEEP the radio is woken; on a new driver PART_NUM is read
 unfoldable pub begin_start : Driver → Outcome
@@ -44,13 +43,12 @@ begin_stop d =
 unfoldable pub stop_call : Driver → List ℕ → Called
 stop_call d p = guarded d p (pick (one_of (30 ∷ 31 ∷ []) (state_no d.state)) (refusing 6 d p) (stepping (begin_stop d) p))
 
--- a commit that is pending already changes nothing; in READY the first write starts
+-- a commit that is pending already changes nothing; in READY it starts, elsewhere it waits
 unfoldable pub begin_commit : Driver → Outcome
 begin_commit d =
     let e = flagged config_pending true d in
     pick (flag config_pending d.flags) (quiet d (actions []))
-    (pick (in_no 29 d) (transition_write SHORT_ADDR_0 (value_of AddrLow d.settings) CONFIG_SHORT0_SET e)
-    (quiet e (actions [])))
+    (pick (in_no 29 d) (start_commit e) (quiet e (actions [])))
 
 -- commit: 12
 unfoldable pub commit_call : Driver → List ℕ → Called

@@ -30,3 +30,4 @@ pub mod Data
 pub mod Kernel
 pub mod Place
 pub mod StartupClaim
+pub mod CommitClaim

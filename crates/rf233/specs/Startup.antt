@@ -31,8 +31,9 @@ startup_table =
     ∷ row register.IRQ_MASK (Constant startup_values.irq_mask) state.START_IRQMASK_SET
     ∷ row register.XAH_CTRL_1 (Constant startup_values.xah_ctrl_1) state.START_XAH1_SET
     ∷ row register.XAH_CTRL_0 (Constant startup_values.xah_ctrl_0) state.START_XAH0_SET
-    ∷ row register.PAN_ID_0 PanHigh state.START_PANID0_SET
-    ∷ row register.PAN_ID_1 PanLow state.START_PANID1_SET
+    -- the datasheet puts the low byte of the PAN in PAN_ID_0 (request 2026-02)
+    ∷ row register.PAN_ID_0 PanLow state.START_PANID0_SET
+    ∷ row register.PAN_ID_1 PanHigh state.START_PANID1_SET
     ∷ row register.IEEE_ADDR_0 (Long 0) state.START_IEEE0_SET
     ∷ row register.IEEE_ADDR_1 (Long 1) state.START_IEEE1_SET
     ∷ row register.IEEE_ADDR_2 (Long 2) state.START_IEEE2_SET

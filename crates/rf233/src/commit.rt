@@ -1,12 +1,14 @@
-// A commit: the states from CONFIG_SHORT0_SET to CONFIG_DONE. Its writes stand in a table.
+// A commit: how it starts, and its states from CONFIG_SHORT0_SET to CONFIG_DONE. The writes of these stand in a table.
 ghost use Rattle.std.specs.Prelude.{◌≡◌, ◌≤◌};
 ghost use Rattle.rf233.specs.Case.{own_case};
+ghost use Rattle.rf233.specs.Commit.{start_commit};
 ghost use Rattle.rf233.specs.State.{state_no};
 
 use crate::action::{Action, Actions};
 use crate::answer::Outcome;
 use crate::arrived::Arrived;
 use crate::driver::Driver;
+use crate::starter::StarterAnswer;
 use crate::state::InternalState;
 use crate::write::{Value, Write};
 use rf233_const::register::RF233Register;
@@ -81,6 +83,23 @@ const COMMIT: [Write; 13] = [
 ];
 
 impl Driver {
+    // A commit starts with its first write; where that finds a transfer under way, the commit only waits, and the state stays.
+    #[tactic(auto, unfolding(crate::specs::Commit::start_commit, crate::specs::Step::by_answer))]
+    pub(crate) fn start_commit(self) -> Outcome
+        ensures { result ≡ start_commit self }
+    {
+        let mut entered = self;
+        entered.state = InternalState::CONFIG_SHORT0_SET;
+        let first = entered.register_write(
+            RF233Register::SHORT_ADDR_0,
+            Value::AddrLow.of(self.settings),
+        );
+        match first.answer {
+            StarterAnswer::Began(_) => first.step(),
+            StarterAnswer::UnderWay => Outcome::done(self),
+        }
+    }
+
     // CONFIG_SHORT0_SET to CONFIG_POWER_SET: each has a row of its own.
     pub(crate) fn commit_case(self, a: Arrived) -> Outcome
         requires first { 45 ≤ state_no self.state }

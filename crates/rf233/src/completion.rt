@@ -6,7 +6,6 @@ ghost use Rattle.rf233.specs.Choice.{pick};
 ghost use Rattle.rf233.specs.Completion.{
   buffers_back,
   completed,
-  falls_on,
   frame_done,
   frame_end,
   interrupt_result,
@@ -20,11 +19,10 @@ ghost use Rattle.rf233.specs.Completion.{
 ghost use Rattle.rf233.specs.Driver.{in_no};
 ghost use Rattle.rf233.specs.State.{state_no};
 
-use crate::answer::{Answer, Outcome};
+use crate::answer::Outcome;
 use crate::arrived::Arrived;
 use crate::driver::{Buffers, Driver, Under};
 use crate::state::InternalState;
-use crate::write::Value;
 use rf233_const::interrupt::{InteruptFlags, interrupt_included};
 use rf233_const::register::RF233Register;
 
@@ -82,17 +80,6 @@ impl InternalState {
     }
 }
 
-impl Outcome {
-    // This step, done, with the first one's transfer.
-    fn after(mut self, first: Outcome) -> Outcome
-        ensures { result ≡ falls_on first self }
-    {
-        self.reply.answer = Answer::Done;
-        self.reply.transfer = first.reply.transfer;
-        self
-    }
-}
-
 impl Driver {
     // The driver with its buffers back.
     fn transfer_over(mut self) -> Driver
@@ -104,18 +91,13 @@ impl Driver {
         self
     }
 
-    // A waiting commit starts in READY; the step falls on into the next state's case, as the Rust's does.
+    // A waiting commit starts in READY, and the step ends there.
     #[tactic(auto, unfolding(crate::specs::Completion::waiting_commit, crate::specs::Choice::pick))]
     fn waiting_commit(self, a: Arrived) -> Outcome
         ensures { result ≡ waiting_commit a self }
     {
         if self.flags.config_pending && matches!(self.state, InternalState::READY) {
-            let first = self.state_transition_write(
-                RF233Register::SHORT_ADDR_0,
-                Value::AddrLow.of(self.settings),
-                InternalState::CONFIG_SHORT0_SET,
-            );
-            return first.driver.own_case(a).after(first);
+            return self.start_commit();
         }
         self.own_case(a)
     }

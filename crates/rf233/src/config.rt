@@ -22,7 +22,6 @@ use crate::answer::{Answer, Outcome};
 use crate::driver::Driver;
 use crate::power::power_fits;
 use crate::state::InternalState;
-use crate::write::Value;
 use rf233_const::register::RF233Register;
 use rf233_const::trx_state::RF233TrxCmd;
 
@@ -102,7 +101,7 @@ impl Driver {
         }
     }
 
-    // A commit starts in READY; elsewhere it waits. One that is pending already is left alone.
+    // A commit starts in READY; elsewhere, and during a transfer, it waits. One that is pending already is left alone.
     #[tactic(auto, unfolding(crate::specs::Config::begin_commit, crate::specs::Choice::pick))]
     fn begin_commit(mut self) -> Outcome
         ensures { result ≡ begin_commit self }
@@ -112,16 +111,12 @@ impl Driver {
         }
         self.flags.config_pending = true;
         match self.state {
-            InternalState::READY => self.state_transition_write(
-                RF233Register::SHORT_ADDR_0,
-                Value::AddrLow.of(self.settings),
-                InternalState::CONFIG_SHORT0_SET,
-            ),
+            InternalState::READY => self.start_commit(),
             _ => Outcome::done(self),
         }
     }
 
-    // Writes the settings to the radio, at once or once it is READY.
+    // Writes the settings to the radio, at once or once it is READY with no transfer under way.
     #[tactic(auto, unfolding(crate::specs::Config::commit_call, crate::specs::Choice::pick))]
     pub fn config_commit(self, pool: &mut [u8]) -> Outcome
         ensures outcome { result ≡ (commit_call self pool.old).outcome }

@@ -66,12 +66,12 @@ const STARTUP: [Write; 25] = [
     },
     Write {
         register: RF233Register::PAN_ID_0,
-        value: Value::PanHigh,
+        value: Value::PanLow,
         next: InternalState::START_PANID0_SET,
     },
     Write {
         register: RF233Register::PAN_ID_1,
-        value: Value::PanLow,
+        value: Value::PanHigh,
         next: InternalState::START_PANID1_SET,
     },
     Write {

@@ -1,6 +1,6 @@
-//! The Rust driver of the AT86RF233 over stand-ins for the kernel, made to answer
-//! scripts of calls, with a generator of scripts and a comparison built on it; and a
-//! second implementation of the trace that calls leave.
+//! The Rust driver of the AT86RF233, with the repairs of request 2026-02, over stand-ins
+//! for the kernel, made to answer scripts of calls, with a generator of scripts and a
+//! comparison built on it; and a second implementation of the trace that calls leave.
 
 pub mod action;
 pub mod answer;
@@ -30,7 +30,7 @@ pub mod trace;
 pub mod view;
 pub mod walk;
 
-// The driver itself, copied unchanged by the build script.
+// The driver itself, copied by the build script with the repairs of docs/2026-02.patch.
 include!(concat!(env!("OUT_DIR"), "/rf233_modules.rs"));
 
 /// The text of the driver as it was compiled.

@@ -132,17 +132,3 @@ fn a_second_length_byte_below_two_is_a_panic_of_the_rust() {
     assert_eq!(end, End::Complete);
     assert!(output.contains("\nreceived 2 0 1\n"), "{output}");
 }
-
-#[test]
-fn the_driver_that_is_built_is_the_driver_in_docs() {
-    // The copy is opened by one line more, and is otherwise the same to the byte.
-    let docs = concat!(
-        env!("CARGO_MANIFEST_DIR"),
-        "/../../docs/src/capsules/extra/src/rf233.rs"
-    );
-    let docs = std::fs::read_to_string(docs).expect("the Rust in docs");
-    let copy = oracle::COPY;
-    let opening = copy.strip_prefix(docs.as_str()).expect("the same text");
-    assert_eq!(opening.lines().count(), 1);
-    assert!(opening.starts_with("#[path = "), "{opening}");
-}

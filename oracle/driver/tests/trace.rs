@@ -101,6 +101,22 @@ fn a_send_leaves_these_records() {
 }
 
 #[test]
+fn a_commit_called_during_a_transfer_leaves_these_records() {
+    // Request 2026-02: the call only leaves the commit waiting, and both bytes of the
+    // address are written.
+    let commit = "fired\nconfig_commit\nread_write_done 22 0\nread_write_done 22 0\n";
+    assert_eq!(
+        last(&format!("set_address 43981\n{}{commit}", ready())),
+        [
+            [7, 29, 29, 0, 0, 0, 1, 0x8F, 0, 2, 2, 0, 0, 0, 0x19, 0],
+            [4, 29, 29, 0, 0, 0, 0, 0, 0, 0, 0, 0, 0, 0, 0x59, 0],
+            [1, 29, 45, 0, 22, 0, 2, 0xE0, 0xCD, 2, 2, 0, 0, 0, 0x49, 0],
+            [1, 45, 46, 0, 22, 0, 2, 0xE1, 0xAB, 2, 2, 0, 0, 0, 0x49, 0],
+        ]
+    );
+}
+
+#[test]
 fn a_reception_leaves_these_records() {
     let lent = "set_receive_client 1\nset_receive_buffer 2 160\n";
     let interrupt = "fired\nread_write_done 0 4\nfired\nread_write_done 0 0\n";
