@@ -88,8 +88,10 @@ impl Driver {
     pub(crate) fn start_commit(self) -> Outcome
         ensures { result ≡ start_commit self }
     {
-        let mut entered = self;
-        entered.state = InternalState::CONFIG_SHORT0_SET;
+        let entered = Driver {
+            state: InternalState::CONFIG_SHORT0_SET,
+            ..self
+        };
         let first = entered.register_write(
             RF233Register::SHORT_ADDR_0,
             Value::AddrLow.of(self.settings),
