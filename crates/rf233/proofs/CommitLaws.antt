@@ -1,6 +1,6 @@
 -- Laws of a commit. Its start, by whether a transfer is under way: `commit_begins`, `commit_waits`. A completion in READY for which it
--- waited: `ready_starts`. Its states 45 to 57, from one computed test of each of their properties: `commit_step`, the write of a state's row
--- sent by any completion there, and `commit_done`, the end in 58. Assumes nothing.
+-- waited: `ready_starts`. Its states 45 to 57, from one computed test of each of their properties: `commit_step`, the write of a state's
+-- row sent by any completion there, and `commit_done`, the end in 58. Assumes nothing.
 use mathlib.Core.Path.{◌≡◌, refl, subst, ◌∙◌}
 use mathlib.Core.Bool.{Bool, true, false, not, ◌&&◌, ◌||◌}
 use mathlib.Core.List.{List, [], ◌∷◌}

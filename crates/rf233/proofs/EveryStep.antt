@@ -124,8 +124,8 @@ module _ (P : Outcome → Type 0) (silent : OfSilent P) where
       (silent_ends (λ e. Unit {0}) (λ b e g. case b e)) a d tt
 
 -- what holds of every step with these actions holds of every access
-pub every_access : (P : Outcome → Type 0) (a : Arrived) (l : Actions) (d : Driver) → ((e : Driver) (t : Option Transfer) → P (done_step e t l))
-    → (x : Access) → P (accessed x a l d)
+pub every_access : (P : Outcome → Type 0) (a : Arrived) (l : Actions) (d : Driver)
+    → ((e : Driver) (t : Option Transfer) → P (done_step e t l)) → (x : Access) → P (accessed x a l d)
 every_access P a l d s none = s _ _
 every_access P a l d s (reads r) = s _ _
 every_access P a l d s (writes r v) = s _ _

@@ -43,7 +43,8 @@ pool = replicate 3040 0
 abbrev example : InternalState → Bool → Bool → Bool → Bool → Option Lent → Option Lent → Under → Driver
 example s w h t b x y u =
     let new = new_driver 129 26 in
-    let listening = set_client listener.Power (set_client listener.Config (set_client listener.Receive (set_client listener.Transmit new true) true) true) true in
+    let frames = set_client listener.Receive (set_client listener.Transmit new true) true in
+    let listening = set_client listener.Power (set_client listener.Config frames true) true in
     let held = with_under u (with_tx_len 10 (with_rx y (with_tx x (with_spi_buf_len 2 (with_spi_buf b (with_registers t new.buffers)))))) in
     flagged radio_on true (flagged interrupt_handling h (flagged config_pending w
     (with_state s (with_buffers held (with_settings (with_pan 0x1234 (with_addr 0xABCD new.settings)) listening)))))
@@ -65,7 +66,8 @@ registers n w s i e =
 abbrev detouring : InternalState → Option Lent → Driver
 detouring s y = example s false true false true None y Register
 
-detours : (n : ℕ) (s : InternalState) (y : Option Lent) (r : ℕ) → In n (detouring s y) → described (detouring s y) ≡ false → bit_set 2 r ≡ false
+detours : (n : ℕ) (s : InternalState) (y : Option Lent) (r : ℕ) → In n (detouring s y) → described (detouring s y) ≡ false
+    → bit_set 2 r ≡ false
     → Detours n (detouring s y) (0 ∷ r ∷ []) pool
 detours n s y r i e b =
     record {
@@ -88,7 +90,8 @@ pub record Occurs : Type 0 where
   pub in_29_waiting : Completes Register 29 (during true READY) (0 ∷ 0 ∷ []) pool
   pub in_46 : Completes Register 46 (during false CONFIG_SHORT1_SET) (0 ∷ 0 ∷ []) pool
   pub in_47 : Completes Register 47 (during false CONFIG_PAN0_SET) (0 ∷ 0 ∷ []) pool
-  pub in_43 : Completes Register 43 (example TX_RETURN_TO_RX false false false true (Some (lent 3 130)) None Register) (0x16 ∷ 0x60 ∷ []) pool
+  pub in_43 : Completes Register 43 (example TX_RETURN_TO_RX false false false true (Some (lent 3 130)) None Register)
+      (0x16 ∷ 0x60 ∷ []) pool
   pub in_63 : Completes (FrameRead (lent 4 129)) 63 (example RX_READING_FRAME_LEN false false true false None None (FrameRead (lent 4 129)))
       (0 ∷ 127 ∷ []) pool
   pub in_29_detour : Detours 29 (detouring READY None) (0 ∷ 0 ∷ []) pool

@@ -89,7 +89,8 @@ module _ {d : Driver} {b : ℕ} {p : List ℕ} (h : MaySend d b p) where
       (record { answer = refl; held = refl; frame = refl }))
 
 -- `start`
-new_sends : (l c : ℕ) (p : List ℕ) → within 129 160 l ≡ true → length p ≡ 3040 → Sends kind.RegisterRead 0x9C 0x00 0 (start_call (new_driver l c) p)
+new_sends : (l c : ℕ) (p : List ℕ) → within 129 160 l ≡ true → length p ≡ 3040
+    → Sends kind.RegisterRead 0x9C 0x00 0 (start_call (new_driver l c) p)
 unfolding start_call begin_start register_transfer pick
 new_sends l c p h e = rw (unguarded (new_driver l c) p _ (record { pool = e; fit = new_fit l c h })) (sends _ _ e refl refl refl)
 
@@ -100,7 +101,8 @@ new_starts l c p e =
     (λ t. rw t (new_sends l c p (both_left (within 129 160 l) _ t) e))
     (λ t. rw t (new_sends 129 26 p refl e))
 
-sleep_starts : (d : Driver) (p : List ℕ) → Passes12 d p → In 31 d → d.buffers.under ≡ Idle → Sends kind.RegisterRead 0x81 0x00 32 (start_call d p)
+sleep_starts : (d : Driver) (p : List ℕ) → Passes12 d p → In 31 d → d.buffers.under ≡ Idle
+    → Sends kind.RegisterRead 0x81 0x00 32 (start_call d p)
 unfolding start_call begin_start register_transfer pick
 sleep_starts d p h s u =
     let t = tx_home d h.fit (rw u) in
@@ -148,7 +150,10 @@ detoured d xs p b l h x e f =
       le-leb (get_or xs 1 0) 127 f,
       h.is_under_way,
     )
-    (record { transfer = rw (x, own) (ap (λ (k : ℕ). Some (transfer_of kind.FrameRead 18 b 0x20 (get_or xs 1 0) k l)) (omega arith)); state = rw (x, own) })
+    (record {
+      transfer = rw (x, own) (ap (λ (k : ℕ). Some (transfer_of kind.FrameRead 18 b 0x20 (get_or xs 1 0) k l)) (omega arith));
+      state = rw (x, own);
+    })
 
 pub starred : StarredCases
 unfolding set_power tree_at trees pick

@@ -1,6 +1,6 @@
 // Each state's own case: what a completion does once buffers, interrupt and commit have been looked at. A case that does something requires
-// that the driver is in its state, each by the state's own number: a type for each state would need a value of each, and is no plainer. A file
-// of cases chooses among its states by a `match` of its own, whose last arm none of them reaches.
+// that the driver is in its state, each by the state's own number: a type for each state would need a value of each, and is no plainer. A
+// file of cases chooses among its states by a `match` of its own, whose last arm none of them reaches.
 ghost use Rattle.std.specs.Prelude.{◌≡◌};
 ghost use Rattle.rf233.specs.Case.{own_case};
 

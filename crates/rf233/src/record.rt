@@ -1,5 +1,5 @@
-// The driver's record of its buffers: what a place has, and where a buffer is. Buffers go by document 01's numbers: 0 to 15 are the clients',
-// 16, 17 and 18 the driver's own.
+// The driver's record of its buffers: what a place has, and where a buffer is. Buffers go by document 01's numbers: 0 to 15 are the
+// clients', 16, 17 and 18 the driver's own.
 ghost use Rattle.std.specs.Prelude.{◌≡◌};
 ghost use Rattle.rf233.specs.Record.{buffer_in, own_has, record_has, slot_has, under_has};
 
