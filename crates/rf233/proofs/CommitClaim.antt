@@ -61,7 +61,7 @@ accepts : (d : Driver) (xs p : List ℕ) → accepted (completion_call d xs p) �
 accepts d xs p e =
     record {
       passes = record { pool = pool_right d p (had_pool d xs p e); fit = driver_right d p (had_pool d xs p e) };
-      to_complete_lem = had_transfer d xs p e;
+      has_transfer = had_transfer d xs p e;
       arrived = had_bytes d xs p e;
     }
 
@@ -116,7 +116,7 @@ module _ (d : Driver) (ready : In 29 d) where
   from_completion xs p e c i o =
       let a = accepts d xs p e in
       let named = rw ready at (frame_named d a.passes.fit) in
-      let u = register_is d.buffers.under a.to_complete_lem named in
+      let u = register_is d.buffers.under a.has_transfer named in
       let g = ready_goes a u (ready_starts (arrived d xs p) d xs refl ready c i o) in
       record { transfer = g.sent.transfer; writing = goes u g }
 

@@ -85,7 +85,7 @@ of_access h a =
 pub of_interrupt : {d : Driver} {xs p : List ℕ} → Detours 29 d xs p → d.settings.addr ≡ 0xABCD → InReady d xs p
 of_interrupt {xs = xs} h a =
     record {
-      accepts = record { passes = h.passes; to_complete_lem = rw h.is_under_way; arrived = h.arrived };
+      accepts = record { passes = h.passes; has_transfer = rw h.is_under_way; arrived = h.arrived };
       state = h.state;
       is_under_way = h.is_under_way;
       pending = h.pending;
@@ -98,19 +98,19 @@ module _ {d : Driver} {xs p : List ℕ} (h : InReady d xs p) (waiting : d.flags.
   starts : StartsFrom d (completed (arrived d xs p) d)
   starts = ready_starts (arrived d xs p) d xs refl h.state waiting h.pending h.no_frame_lem
 
-  first_write_lem : Goes 0xE0 (value_of AddrLow d.settings) 45 d (completion_call d xs p)
-  first_write_lem = ready_goes h.accepts h.is_under_way starts
+  first_goes : Goes 0xE0 (value_of AddrLow d.settings) 45 d (completion_call d xs p)
+  first_goes = ready_goes h.accepts h.is_under_way starts
 
   -- the completion behind it finds what it needs
   second_completes : (ys : List ℕ) → length ys ≡ 2
       → Completes Register 45 (completion_call d xs p).outcome.driver ys (completion_call d xs p).pool
-  second_completes ys l = next ys (search) (search) h.accepts.passes.fit h.state h.is_under_way first_write_lem l
+  second_completes ys l = next ys (search) (search) h.accepts.passes.fit h.state h.is_under_way first_goes l
 
   pub both_bytes : BothBytes (completion_call d xs p)
   both_bytes =
-      let address = ap (λ (s : Settings). s.addr) first_write_lem.settings ∙ h.address in
+      let address = ap (λ (s : Settings). s.addr) first_goes.settings ∙ h.address in
       record {
-        low = second (ap low h.address) first_write_lem.sent;
+        low = second (ap low h.address) first_goes.sent;
         shows_nothing = ready_silent h.accepts h.is_under_way starts;
         high = λ ys l. second (ap high address) (commit_step 0 (omega arith) (second_completes ys l)).sent;
       }
@@ -130,7 +130,7 @@ busy {d} {xs} {p} h c =
     let fit = moved 29 29 d e (search) (search) h.state h.state h.is_under_way refl ∙ a.passes.fit in
     let ready : InReady e xs p =
     record {
-      accepts = record { passes = record { pool = a.passes.pool; fit = fit }; to_complete_lem = a.to_complete_lem; arrived = a.arrived };
+      accepts = record { passes = record { pool = a.passes.pool; fit = fit }; has_transfer = a.has_transfer; arrived = a.arrived };
       state = h.state;
       is_under_way = h.is_under_way;
       pending = h.pending;
@@ -158,7 +158,7 @@ module _ (ys : ℕ → List ℕ) (two : (k : ℕ) → length (ys k) ≡ 2) {d : 
 
     reached : (k : ℕ) → k < 14 → Reached k (at k)
     unfolding run
-    reached zero l = record { settings = (first_write_lem h waiting).settings; completes = second_completes h waiting (ys 0) (two 0) }
+    reached zero l = record { settings = (first_goes h waiting).settings; completes = second_completes h waiting (ys 0) (two 0) }
     reached (suc k) l =
         let r = reached k (omega arith) in
         let s = commit_state k (omega arith) in

@@ -75,7 +75,7 @@ brought d xs p = copied (read_buffer d.buffers.under) xs p
 -- none of 12, 11 and 13 refuses the completion
 pub record Accepts (d : Driver) (xs p : List ℕ) : Type 0 where
   pub passes : Passes12 d p
-  pub to_complete_lem : to_complete d.buffers ≡ true
+  pub has_transfer : to_complete d.buffers ≡ true
   pub arrived : arrived_bad xs d.buffers ≡ false
 
 module _ {d : Driver} {xs p : List ℕ} (h : Accepts d xs p) where
@@ -89,7 +89,7 @@ module _ {d : Driver} {xs p : List ℕ} (h : Accepts d xs p) where
   -- the step is made
   pub accepted_step : completion_call d xs p ≡ stepping (completed (arrived d xs p) d) (brought d xs p)
   unfolding completion_call completing pick
-  accepted_step = rw (unguarded d p _ h.passes, h.arrived, h.to_complete_lem)
+  accepted_step = rw (unguarded d p _ h.passes, h.arrived, h.has_transfer)
 
   pub is_accepted : accepted (completion_call d xs p) ≡ true
   is_accepted = ap accepted accepted_step ∙ done_is_accepted (completed (arrived d xs p) d) (done_completed (arrived d xs p) d)
@@ -97,7 +97,7 @@ module _ {d : Driver} {xs p : List ℕ} (h : Accepts d xs p) where
 -- a completion while no interrupt is being handled or pending
 module _ {u : Under} {n : ℕ} {d : Driver} {xs p : List ℕ} (h : Completes u n d xs p) where
   pub accepts : under_way u ≡ true → Accepts d xs p
-  accepts i = record { passes = h.passes; to_complete_lem = ap under_way h.is_under_way ∙ i; arrived = h.arrived }
+  accepts i = record { passes = h.passes; has_transfer = ap under_way h.is_under_way ∙ i; arrived = h.arrived }
 
   -- outside READY it is the own case of the state m that the transfer leaves
   pub straight : (m : ℕ) → under_way u ≡ true → state_no (frame_done false d.state) ≡ m → eqb m 29 ≡ false
