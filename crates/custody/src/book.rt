@@ -69,7 +69,8 @@ fn put_at(mut places: [Place; 19], buffer: u8, place: Place) -> [Place; 19]
 }
 
 // The place that a transfer of a kind takes the buffer from that it sends: transmit for a frame write, else the driver's own. It and the
-// next are two functions, as document 01 has two rules: one for both would take the frame's kind and its place as parameters beside the kind.
+// next are two functions, as document 01 has two rules: one for both would take the frame's kind and its place as parameters beside the
+// kind.
 fn write_from(kind: TransferKind) -> Place
     ensures { place_no result ≡ write_from (kind_value kind) }
 {
