@@ -7,6 +7,9 @@ pub mod Undescribed
 pub mod Events
 pub mod Calls
 pub mod CustodyClaim
+pub mod StartupStages
+pub mod StartupRun
+pub mod StartupClaim
 pub mod BookCounts
 pub mod BookLists
 pub mod Faults

@@ -1,5 +1,5 @@
--- What an accepted and a refused event leave: an accepted completion is the step `completed` on the copied bytes, an accepted firing is
--- `handle_interrupt`, and a refused event leaves the driver as it was. From this: a step's own answer is always done. Assumes nothing.
+-- What an accepted event yields: an accepted completion is the step `completed` on the copied bytes, an accepted firing `handle_interrupt`;
+-- what an accepted completion had; and that a step's own answer is always done. Assumes nothing.
 use mathlib.Core.Path.{◌≡◌, refl, sym, ap, ◌∙◌}
 use mathlib.Core.Bool.{Bool, true, false, not}
 use borrow.Author.Tests.{not-false}
@@ -7,9 +7,8 @@ use mathlib.Core.List.{List}
 use Prim.Native.Nat.{ℕ}
 use lib.Dec.{eqb}
 use Rattle.rf233.proofs.EveryStep.{OfSilent, every_firing, every_completion, every_access}
-use Rattle.rf233.proofs.ChoiceLaws.{either}
 use Rattle.rf233.specs.Answer.{answer_no}
-use Rattle.rf233.specs.Guard.{Called, pool_fault}
+use Rattle.rf233.specs.Guard.{Called, accepted, pool_fault}
 use Rattle.rf233.specs.Kernel.{completing, completion_call, fired_call, arrived_bad}
 use Rattle.rf233.specs.Arrived.{arrived_of}
 use Rattle.rf233.specs.Choice.{pick}
@@ -19,7 +18,6 @@ use Rattle.rf233.specs.Case.{perform, case_of, own_case, tree_at}
 use Rattle.rf233.specs.Pool.{copied, read_buffer}
 use Rattle.rf233.specs.Rows.{Row, eval}
 use Rattle.rf233.specs.Rows.Row.{does}
-use Rattle.rf233.specs.StartupClaim.{after, accepted}
 use Rattle.rf233.specs.Transfer.{to_complete}
 use Rattle.rf233.specs.declared.answer.Answer.TheVariants.{Done}
 use Rattle.rf233.specs.declared.answer.Outcome.{Outcome}
@@ -55,22 +53,22 @@ past true r s e a = clash (accepted r) e a
 past false r s e a = refl
 
 -- an accepted firing is the interrupt's step
-pub fired_accepted : (d : Driver) (p : List ℕ) → accepted (fired_call d p) ≡ true → after (fired_call d p) ≡ (handle_interrupt d).driver
+pub fired_accepted : (d : Driver) (p : List ℕ) → accepted (fired_call d p) ≡ true → (fired_call d p).outcome ≡ handle_interrupt d
 unfolding fired_call
-fired_accepted d p e = ap after (past (pool_fault d p) _ _ refl e)
+fired_accepted d p e = ap (λ (c : Called). c.outcome) (past (pool_fault d p) _ _ refl e)
 
 -- an accepted completion is the step of its bytes
 abbrev pub arrived : Driver → List ℕ → List ℕ → Arrived
 arrived d xs p = arrived_of xs d.buffers (copied (read_buffer d.buffers.under) xs p)
 
 pub completion_accepted : (d : Driver) (xs p : List ℕ) → accepted (completion_call d xs p) ≡ true
-    → after (completion_call d xs p) ≡ (completed (arrived d xs p) d).driver
+    → (completion_call d xs p).outcome ≡ completed (arrived d xs p) d
 unfolding completion_call completing
 completion_accepted d xs p e =
     let e₁ = past (pool_fault d p) _ _ refl e in
     let e₂ = past (not (to_complete d.buffers)) _ _ refl (ap accepted (sym e₁) ∙ e) in
     let e₃ = past (arrived_bad xs d.buffers) _ _ refl (ap accepted (sym e₂) ∙ (ap accepted (sym e₁) ∙ e)) in
-    ap after (e₁ ∙ (e₂ ∙ e₃))
+    ap (λ (c : Called). c.outcome) (e₁ ∙ (e₂ ∙ e₃))
 
 -- a completion that is accepted had a pool, a transfer to complete, and bytes that it can bring
 pub not_refused : (t : Bool) (r s : Called) → accepted r ≡ false → accepted (pick t r s) ≡ true → t ≡ false
@@ -95,22 +93,6 @@ had_bytes d xs p e =
     let e₂ = past (not (to_complete d.buffers)) _ _ refl (ap accepted (sym e₁) ∙ e) in
     not_refused (arrived_bad xs d.buffers) _ _ refl (ap accepted (sym e₂) ∙ (ap accepted (sym e₁) ∙ e))
 
--- a refused event leaves the driver as it was
-abbrev Unaltered : Driver → Called → Type 0
-Unaltered d c = accepted c ≡ false → after c ≡ d
-
+-- a step that is done is accepted
 pub done_is_accepted : (o : Outcome) → IsDone o → eqb (answer_no o.reply.answer) 0 ≡ true
 done_is_accepted o e = ap (λ x. eqb (answer_no x) 0) e
-
-pub fired_refused : (d : Driver) (p : List ℕ) → Unaltered d (fired_call d p)
-unfolding fired_call
-fired_refused d p =
-    either (Unaltered d) (pool_fault d p) _ _ (λ e. refl) (λ e. clash _ e (done_is_accepted (handle_interrupt d) (done_handle d)))
-
-pub completion_refused_lem : (d : Driver) (xs p : List ℕ) → Unaltered d (completion_call d xs p)
-unfolding completion_call completing
-completion_refused_lem d xs p =
-    either (Unaltered d) (pool_fault d p) _ _ (λ e. refl)
-    (either (Unaltered d) (not (to_complete d.buffers)) _ _ (λ e. refl)
-    (either (Unaltered d) (arrived_bad xs d.buffers) _ _ (λ e. refl)
-    (λ e. clash _ e (done_is_accepted (completed _ d) (done_completed _ d)))))

@@ -22,9 +22,8 @@ use Rattle.rf233.specs.CommitClaim.Starts.{called, waited}
 use Rattle.rf233.specs.Config.{begin_commit, commit_call}
 use Rattle.rf233.specs.Driver.{flagged}
 use Rattle.rf233.specs.Driver.Flag.{config_pending}
-use Rattle.rf233.specs.Guard.{Called, pool_fault}
+use Rattle.rf233.specs.Guard.{Called, after, accepted, pool_fault}
 use Rattle.rf233.specs.Kernel.{completion_call}
-use Rattle.rf233.specs.StartupClaim.{after, accepted}
 use Rattle.rf233.specs.State.{state_no}
 use Rattle.rf233.specs.Transfer.{free_to_start}
 use Rattle.rf233.specs.Write.{row_at}

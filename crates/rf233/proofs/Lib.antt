@@ -10,7 +10,6 @@ pub mod EveryStep
 pub mod PoolLaws
 pub mod Sound
 pub mod Accepted
-pub mod StartupClaim
 pub mod Starred
 pub mod StarredProofs
 pub mod StarredCommit

@@ -14,7 +14,7 @@ use Rattle.rf233_const.specs.Command as command
 use Rattle.rf233_const.specs.Register.{register_address}
 use Rattle.rf233_const.specs.declared.register.RF233Register.{RF233Register}
 use Rattle.rf233.specs.Choice.{pick}
-use Rattle.rf233.specs.Guard.{Called, stepping, guarded}
+use Rattle.rf233.specs.Guard.{Called, accepted, stepping, guarded}
 use Rattle.rf233.specs.Described.{described}
 use Rattle.rf233.specs.Kernel.{completing, completion_call, arrived_bad}
 use Rattle.rf233.specs.Completion.{completed, ready_bookkeeping, pending_interrupt, waiting_commit, frame_done, transfer_over}
@@ -25,7 +25,6 @@ use Rattle.rf233.specs.Rows.Access.{writes}
 use Rattle.rf233.specs.Rows.Next.{to}
 use Rattle.rf233.specs.Rows.Row.{does}
 use Rattle.rf233.specs.Rows.Tree.{leaf}
-use Rattle.rf233.specs.StartupClaim.{accepted}
 use Rattle.rf233.specs.State.{state_no}
 use Rattle.rf233.specs.Transfer.{kind_value, transfer_of, under_way, to_complete}
 use Rattle.rf233.specs.Starter.{register_transfer}

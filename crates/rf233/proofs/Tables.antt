@@ -1,10 +1,14 @@
 -- A table's rule, from one test of the whole table: what a list of a function's values has at each place, and, of a table of writes as
 -- cases, that what it has for a state is what the state's tree writes. Assumes nothing.
 use mathlib.Core.Path.{◌≡◌, refl, subst, sym, ap, ◌∙◌}
+use mathlib.Core.Bool.{Bool, true, false, ◌||◌, true≢false}
 use mathlib.Core.List.{List, [], ◌∷◌, map}
 use Prim.Native.Nat.{ℕ, zero, suc, ◌+◌, ◌-◌, ◌≤◌, ◌<◌}
 use native.Mathlib.Omega.{arith}
-use lib.ListN.{length, get_or}
+use lib.Dec.{eqb}
+use lib.ListN.{length, get_or, drop}
+use borrow.Author.Tests.{eqb-true}
+use Rattle.rf233.specs.Choice.{one_of}
 use Rattle.rf233.specs.Case.{own_case, case_of, perform, tree_at}
 use Rattle.rf233.specs.Rows.{eval, write}
 use Rattle.rf233.specs.State.{state_no}
@@ -34,6 +38,18 @@ in_range_lem f g lo len n h p q =
     let e : lo + k ≡ n = omega arith in
     let l : k < len = omega arith in
     subst (λ (m : ℕ). f m ≡ g m) e (sym (listed f lo len k (f n) l) ∙ ap (λ (xs : List _). get_or xs k (f n)) h ∙ listed g lo len k (f n) l)
+
+-- of two tests the first passes, or the second does
+first_or : {C : Type 0} (t : Bool) {u : Bool} → (t ≡ true → C) → (u ≡ true → C) → t || u ≡ true → C
+first_or true f g e = f refl
+first_or false f g e = g e
+
+-- and on any list of numbers, at each number that is in it
+pub in_list : {A : Type 0} (f g : ℕ → A) (l : List ℕ) (n : ℕ) → map f l ≡ map g l → one_of l n ≡ true → f n ≡ g n
+in_list f g [] n h e = absurd (true≢false (sym e))
+in_list f g (k ∷ l) n h e =
+    let first : f k ≡ g k = ap (λ (xs : List _). get_or xs 0 (f k)) h in
+    first_or (eqb n k) (λ i. subst (λ m. f m ≡ g m) (sym (eqb-true n k i)) first) (in_list f g l n (ap (drop 1) h)) e
 
 -- and two that agree at each of the numbers have the same list
 pub same_list : {A : Type 0} (f g : ℕ → A) (lo len : ℕ) → ((n : ℕ) → lo ≤ n → n < lo + len → f n ≡ g n)

@@ -8,9 +8,8 @@ use Rattle.rf233_const.specs.declared.register.RF233Register.TheVariants.{TRX_ST
 use Rattle.rf233.specs.Commit.{first_write, commit_table}
 use Rattle.rf233.specs.Config.{commit_call}
 use Rattle.rf233.specs.Driver.{in_no}
-use Rattle.rf233.specs.Guard.{Called}
+use Rattle.rf233.specs.Guard.{Called, after, accepted}
 use Rattle.rf233.specs.Kernel.{completion_call}
-use Rattle.rf233.specs.StartupClaim.{after, accepted}
 use Rattle.rf233.specs.Transfer.{transfer_of, free_to_start}
 use Rattle.rf233.specs.Write.{value_of, row_at}
 use Rattle.rf233.specs.declared.driver.Driver.{Driver}

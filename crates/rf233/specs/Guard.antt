@@ -1,7 +1,7 @@
--- What a call yields, with the pool after it; refusal 12, asked before anything else; and the end of a step, whose command bytes are
--- written.
+-- What a call yields, with the pool after it, and whether it was accepted; refusal 12, asked before anything else; and the end of a step,
+-- whose command bytes are written.
 use Rattle.std.specs.Prelude.{ℕ, Bool, not, ◌||◌, List, eqb, length}
-use Rattle.rf233.specs.Answer.{refused}
+use Rattle.rf233.specs.Answer.{answer_no, refused}
 use Rattle.rf233.specs.Choice.{pick}
 use Rattle.rf233.specs.Described.{described}
 use Rattle.rf233.specs.Pool.{pool_length, command_written}
@@ -12,6 +12,14 @@ use Rattle.rf233.specs.declared.driver.Driver.{Driver}
 pub record Called : Type 0 where
   pub outcome : Outcome
   pub pool : List ℕ
+
+-- the driver that a call leaves
+abbrev pub after : Called → Driver
+after c = c.outcome.driver
+
+-- the call was accepted
+abbrev pub accepted : Called → Bool
+accepted c = eqb (answer_no c.outcome.reply.answer) 0
 
 -- the refusal of this number leaves the pool as it is
 abbrev pub refusing : ℕ → Driver → List ℕ → Called

@@ -29,5 +29,4 @@ pub mod Create
 pub mod Data
 pub mod Kernel
 pub mod Place
-pub mod StartupClaim
 pub mod CommitClaim
