@@ -10,6 +10,7 @@ pub mod CustodyClaim
 pub mod StartupStages
 pub mod StartupRun
 pub mod StartupClaim
+pub mod StartupOccurs
 pub mod BookCounts
 pub mod BookLists
 pub mod Faults

@@ -21,7 +21,7 @@ pub mod outcome;
 mod panics;
 mod parse;
 pub mod progress;
-mod random;
+pub mod random;
 pub mod run;
 pub mod session;
 pub mod settings;
