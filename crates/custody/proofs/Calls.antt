@@ -28,8 +28,9 @@ use Rattle.rf233.specs.declared.driver.Under.{Under}
 use Rattle.rf233.specs.declared.state.InternalState.TheVariants.{SLEEP_WAKE, SLEEP_TRX_OFF, TX_STATUS_PRECHECK1}
 use Rattle.custody.specs.Book.{Page, Fed, called, entered}
 use Rattle.custody.specs.Book.Fed.{completes, other, lends_transmit, lends_receive}
-use Rattle.custody.specs.Claim.{Call, fed, made, yields}
-use Rattle.custody.specs.Claim.Call.{
+use Rattle.custody.specs.Claim.{fed}
+use Rattle.rf233.specs.Calls.{Call, made, yields}
+use Rattle.rf233.specs.Calls.Call.{
   start,
   stop,
   commit,

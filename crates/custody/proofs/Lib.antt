@@ -7,14 +7,8 @@ pub mod Undescribed
 pub mod Events
 pub mod Calls
 pub mod CustodyClaim
-pub mod StartupStages
-pub mod StartupRun
-pub mod StartupClaim
-pub mod StartupOccurs
 pub mod BookCounts
 pub mod BookLists
 pub mod Faults
-pub mod EveryCall
-pub mod Refusal
 pub mod Shown
 pub mod Yield

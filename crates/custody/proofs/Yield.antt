@@ -35,7 +35,7 @@ use Rattle.rf233.proofs.Trees.{leaves, unknown, row_of, row_of_lem}
 use Rattle.custody.specs.Book.{is_act}
 use Rattle.custody.specs.Yield.{act_count, Yield, SixActions}
 use Rattle.custody.proofs.Actions.{fewer}
-use Rattle.custody.proofs.EveryCall.{reset_actions, every_call}
+use Rattle.rf233.proofs.EveryCall.{reset_actions, every_call}
 use Rattle.custody.proofs.Shown.{passes, plainly, Notices, all_pass}
 
 -- ---- a list of at most six actions, in its six places

@@ -1,65 +1,34 @@
 -- Demand 3 (document 01, "The book of custody"): one claim about any list of calls on any new driver, 15's too, with any pool at each call.
--- The calls are the definitions that the public calls' promises equal (specs/ of rf233: Config, Data, Kernel, Listeners), so that the claim
--- speaks of the code.
-use Rattle.std.specs.Prelude.{◌≡◌, ℕ, zero, suc, ◌+◌, ◌<◌, ◌≤◌, Bool, false, cond, T, List, [], ◌∷◌, ℤ, ◌==◌, slice_index_or}
-use Rattle.rf233.specs.Action.{actions}
+-- What a call yields is the definition that the public call promises (specs/Calls.antt of rf233), so that the claim speaks of the code.
+use Rattle.std.specs.Prelude.{◌≡◌, ℕ, zero, suc, ◌+◌, ◌<◌, ◌≤◌, false, cond, T, List, [], ◌∷◌, ◌==◌, slice_index_or}
 use Rattle.rf233.specs.Choice.{one_of}
-use Rattle.rf233.specs.Step.{quiet}
+use Rattle.rf233.specs.Calls.{Call, yields}
+use Rattle.rf233.specs.Calls.Call.{
+  start,
+  stop,
+  commit,
+  fire,
+  query,
+  complete,
+  transmit,
+  receive_buffer,
+  reset,
+  address,
+  pan,
+  channel,
+  address_long,
+  power,
+  listener,
+}
 use Rattle.custody.specs.Book.{Page, Fed, new_page, entered}
 use Rattle.custody.specs.Book.Fed.{lends_transmit, lends_receive, completes, other}
-use Rattle.rf233.specs.Config.{start_call, stop_call, commit_call, reset_call, set_address, set_address_long, set_pan, set_power}
-use Rattle.rf233.specs.Config.{set_channel}
-use Rattle.rf233.specs.Kernel.{fired_call, completion_call}
-use Rattle.rf233.specs.Data.{transmit_call, receive_buffer_call}
-use Rattle.rf233.specs.Listeners.{set_client}
-use Rattle.rf233.specs.declared.driver.Client.{Client}
-use Rattle.rf233.specs.Guard.{Called}
 use Rattle.rf233.specs.Create.{new_call}
 use Rattle.rf233.specs.Place.{client_place, own_place, transfer_place, places_of}
 use Rattle.rf233.specs.Record.{record_has, one}
-use Rattle.rf233.specs.declared.answer.Outcome.{Outcome}
 use Rattle.rf233.specs.declared.driver.Buffers.{Buffers}
 use Rattle.rf233.specs.declared.driver.Driver.{Driver}
 use Rattle.rf233.specs.declared.driver.Under.{Under}
 use Rattle.rf233.specs.declared.driver.Under.TheVariants.{Idle, Register, FrameRead, FrameWrite}
-
--- the calls of demand 3, with their arguments; `query` stands for `initialize` and the methods that only read
-pub data Call : Type 0 where
-  start stop commit fire query : Call
-  complete : List ℕ → Call
-  transmit : ℕ → ℕ → ℕ → Call
-  receive_buffer : ℕ → ℕ → Call
-  reset : Bool → Call
-  address pan channel : ℕ → Call
-  address_long : List ℕ → Call
-  power : ℤ → Call
-  listener : Client → Bool → Call
-
--- what was yielded, with this pool after it
-abbrev pub with_pool : Outcome → List ℕ → Called
-with_pool o p = record { outcome = o; pool = p }
-
--- a call made on a driver, with this pool: what it yields, and the pool after it
-unfoldable pub made : Driver → Call → List ℕ → Called
-made d start p = start_call d p
-made d stop p = stop_call d p
-made d commit p = commit_call d p
-made d fire p = fired_call d p
-made d query p = with_pool (quiet d (actions [])) p
-made d (complete xs) p = completion_call d xs p
-made d (transmit b l n) p = transmit_call d b l n p
-made d (receive_buffer b l) p = with_pool (receive_buffer_call d b l) p
-made d (reset v) p = with_pool (reset_call d v) p
-made d (address a) p = with_pool (quiet (set_address d a) (actions [])) p
-made d (pan a) p = with_pool (quiet (set_pan d a) (actions [])) p
-made d (channel c) p = with_pool (set_channel d c) p
-made d (address_long l) p = with_pool (quiet (set_address_long d l) (actions [])) p
-made d (power t) p = with_pool (set_power d t) p
-made d (listener x v) p = with_pool (quiet (set_client x d v) (actions [])) p
-
--- what it yields
-abbrev pub yields : Driver → Call → List ℕ → Outcome
-yields d c p = (made d c p).outcome
 
 -- what the book looks at of a call's arguments
 abbrev pub fed : Call → Fed

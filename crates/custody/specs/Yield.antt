@@ -7,7 +7,7 @@ use Rattle.rf233.specs.declared.action.Action.{Action}
 use Rattle.rf233.specs.declared.answer.Reply.{Reply}
 use Rattle.rf233.specs.declared.driver.Driver.{Driver}
 use Rattle.custody.specs.Book.{is_act}
-use Rattle.custody.specs.Claim.{Call, yields}
+use Rattle.rf233.specs.Calls.{Call, yields}
 
 -- how many of the places hold an action, one that is not `Nothing`
 abbrev pub act_count : List Action → ℕ

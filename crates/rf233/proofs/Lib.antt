@@ -21,3 +21,9 @@ pub mod CommitClaim
 pub mod Twice
 pub mod Regrouped
 pub mod FullPlace
+pub mod EveryCall
+pub mod Refusal
+pub mod StartupStages
+pub mod StartupRun
+pub mod StartupClaim
+pub mod StartupOccurs

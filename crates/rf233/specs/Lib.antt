@@ -29,4 +29,7 @@ pub mod Create
 pub mod Data
 pub mod Kernel
 pub mod Place
+pub mod Calls
+pub mod Refusal
+pub mod StartupClaim
 pub mod CommitClaim

@@ -1,8 +1,8 @@
 -- What a line of a script asks for: one of the calls that the claims of custody and of traces speak of, a new driver, or neither. And what
 -- is then done.
 use Rattle.std.specs.Prelude.{ℕ, List, [], take}
-use Rattle.custody.specs.Claim.{Call, made, with_pool}
-use Rattle.custody.specs.Claim.Call.{
+use Rattle.rf233.specs.Calls.{Call, made, with_pool}
+use Rattle.rf233.specs.Calls.Call.{
   start,
   stop,
   commit,

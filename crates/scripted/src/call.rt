@@ -1,6 +1,6 @@
 // The call that a line asks for, made on the driver through its public functions.
 ghost use Rattle.std.specs.Prelude.{◌≡◌};
-ghost use Rattle.custody.specs.Claim.{with_pool};
+ghost use Rattle.rf233.specs.Calls.{with_pool};
 ghost use Rattle.scripted.specs.Asked.{asked, performed};
 
 use crate::named::first;
@@ -9,7 +9,7 @@ use rf233::driver::{Client, Driver};
 use script::line::Line;
 
 // What the line asks for, with the bytes that it names, done.
-#[tactic(auto, unfolding(crate::specs::Asked::asked, crate::specs::Asked::performed, custody::specs::Claim::made))]
+#[tactic(auto, unfolding(crate::specs::Asked::asked, crate::specs::Asked::performed, rf233::specs::Calls::made))]
 pub fn make(d: Driver, line: Line, bytes: &[u8], pool: &mut [u8]) -> Outcome
     ensures { with_pool result pool.new ≡ performed d (asked line bytes.now) pool.old }
 {

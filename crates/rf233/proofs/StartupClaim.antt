@@ -21,14 +21,14 @@ use Rattle.rf233.proofs.Conditions.{by_flag}
 use Rattle.rf233.proofs.Starred.{Passes12}
 use Rattle.rf233.proofs.StarredSteps.{unguarded, is_accepted}
 use Rattle.laws.proofs.Logic.{by_value}
-use Rattle.custody.specs.Refusal.{answered}
-use Rattle.custody.specs.StartupClaim.{Seen, Run, at_completion, at_firing, interrupt_out, shows_lock, pll_on_sent}
-use Rattle.custody.specs.StartupClaim.{needed, is_over, is_ready, GoesOn, Arrives, StartupCount, StartupClaim}
-use Rattle.custody.specs.StartupClaim.GoesOn.{by_completion, by_firing}
-use Rattle.custody.specs.StartupClaim.Run.{here, completes, fires}
-use Rattle.custody.proofs.StartupStages.{fresh, on_stages, View, new_undescribed}
-use Rattle.custody.proofs.StartupRun.{Fresh, prepared, skipped, number, Stands, holds, is_fired, pll_on_is, busy_is, out_at_2, out_at_30}
-use Rattle.custody.proofs.StartupRun.{number_next, after_completion, after_firing, begin, stands}
+use Rattle.rf233.specs.Refusal.{answered}
+use Rattle.rf233.specs.StartupClaim.{Seen, Run, at_completion, at_firing, interrupt_out, shows_lock, pll_on_sent}
+use Rattle.rf233.specs.StartupClaim.{needed, is_over, is_ready, GoesOn, Arrives, StartupCount, StartupClaim}
+use Rattle.rf233.specs.StartupClaim.GoesOn.{by_completion, by_firing}
+use Rattle.rf233.specs.StartupClaim.Run.{here, completes, fires}
+use Rattle.rf233.proofs.StartupStages.{fresh, on_stages, View, new_undescribed}
+use Rattle.rf233.proofs.StartupRun.{Fresh, prepared, skipped, number, Stands, holds, is_fired, pll_on_is, busy_is, out_at_2, out_at_30}
+use Rattle.rf233.proofs.StartupRun.{number_next, after_completion, after_firing, begin, stands}
 
 -- ---- the count
 

@@ -25,8 +25,8 @@ use Rattle.rf233.specs.declared.answer.Outcome.{Outcome}
 use Rattle.rf233.specs.declared.driver.Client.{Client}
 use Rattle.rf233.specs.declared.driver.Driver.{Driver}
 use Rattle.rf233.specs.declared.transfer.Transfer.{Transfer}
-use Rattle.custody.specs.Claim.{Call, made}
-use Rattle.custody.specs.Refusal.{answered}
+use Rattle.rf233.specs.Calls.{Call, made}
+use Rattle.rf233.specs.Refusal.{answered}
 
 -- ---- what is seen from outside
 

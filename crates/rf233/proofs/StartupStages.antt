@@ -41,7 +41,7 @@ use Rattle.rf233.proofs.Conditions.{by_flag}
 use Rattle.rf233.proofs.Keys.{range}
 use Rattle.rf233.proofs.Tables.{in_range_lem, in_list}
 use Rattle.laws.proofs.Logic.{both_left}
-use Rattle.custody.specs.StartupClaim.{Seen, is_ready, at_start, reads, last_reads, turns_pll_on, pll_on_sent}
+use Rattle.rf233.specs.StartupClaim.{Seen, is_ready, at_start, reads, last_reads, turns_pll_on, pll_on_sent}
 
 -- ---- the stages
 

@@ -26,16 +26,16 @@ use Rattle.rf233.specs.declared.transfer.Transfer.{Transfer}
 use Rattle.rf233.proofs.Accepted.{arrived, past, fired_accepted, completion_accepted, had_transfer}
 use Rattle.rf233.proofs.ChoiceLaws.{branch, either}
 use Rattle.laws.proofs.Logic.{left, is_true, both_left, both_right, clash}
-use Rattle.custody.specs.Claim.{Call, made}
-use Rattle.custody.specs.Refusal.{withdraws}
-use Rattle.custody.specs.StartupClaim.{Seen, Setting, Prepared, Run, also_sent, at_start, at_completion, at_firing}
-use Rattle.custody.specs.StartupClaim.{first_status_out, interrupt_out, shows_lock, last_reads, pll_on_sent}
-use Rattle.custody.specs.StartupClaim.Setting.{address, address_long, pan, channel, power, listener}
-use Rattle.custody.specs.StartupClaim.Prepared.{new, set}
-use Rattle.custody.specs.StartupClaim.Run.{here, completes, fires}
-use Rattle.custody.proofs.Refusal.{refused_alters_nothing}
-use Rattle.custody.proofs.StartupStages.{fresh, stage, no_stop, View, seen_view, stage_view, sent_view, completion_view, firing_view}
-use Rattle.custody.proofs.StartupStages.{Holds, holds_at, on_stages, entered, start_leads, firing_leads, next, completion_leads}
+use Rattle.rf233.specs.Calls.{Call, made}
+use Rattle.rf233.specs.Refusal.{withdraws}
+use Rattle.rf233.specs.StartupClaim.{Seen, Setting, Prepared, Run, also_sent, at_start, at_completion, at_firing}
+use Rattle.rf233.specs.StartupClaim.{first_status_out, interrupt_out, shows_lock, last_reads, pll_on_sent}
+use Rattle.rf233.specs.StartupClaim.Setting.{address, address_long, pan, channel, power, listener}
+use Rattle.rf233.specs.StartupClaim.Prepared.{new, set}
+use Rattle.rf233.specs.StartupClaim.Run.{here, completes, fires}
+use Rattle.rf233.proofs.Refusal.{refused_alters_nothing}
+use Rattle.rf233.proofs.StartupStages.{fresh, stage, no_stop, View, seen_view, stage_view, sent_view, completion_view, firing_view}
+use Rattle.rf233.proofs.StartupStages.{Holds, holds_at, on_stages, entered, start_leads, firing_leads, next, completion_leads}
 
 -- ---- calls that are refused
 

@@ -25,8 +25,8 @@ use Rattle.rf233.specs.Rows.{eval, holds}
 use Rattle.rf233.specs.Starter.{register_transfer}
 use Rattle.rf233.specs.declared.driver.Driver.{Driver}
 use Rattle.laws.proofs.Logic.{both_left, both_right}
-use Rattle.custody.specs.StartupClaim.{Seen, Run, Starting, at_start, at_completion, at_firing, shows_lock, pll_on_sent, is_ready}
-use Rattle.custody.specs.StartupClaim.Run.{here, completes, fires}
+use Rattle.rf233.specs.StartupClaim.{Seen, Run, Starting, at_start, at_completion, at_firing, shows_lock, pll_on_sent, is_ready}
+use Rattle.rf233.specs.StartupClaim.Run.{here, completes, fires}
 
 pub pool : List ℕ
 pool = replicate 3040 0

@@ -11,9 +11,9 @@ use Rattle.rf233.specs.declared.answer.Outcome.{Outcome}
 use Rattle.rf233.specs.declared.driver.Driver.{Driver}
 use Rattle.rf233.proofs.Accepted.{IsDone, done_completed}
 use Rattle.rf233.proofs.ChoiceLaws.{branch, either}
-use Rattle.custody.specs.Claim.{Call, made, with_pool}
-use Rattle.custody.specs.Refusal.{TurnedDown, left_by, answered, RefusedAltersNothing, RefusedNew, HeldIsRefused}
-use Rattle.custody.proofs.EveryCall.{every_call}
+use Rattle.rf233.specs.Calls.{Call, made, with_pool}
+use Rattle.rf233.specs.Refusal.{TurnedDown, left_by, answered, RefusedAltersNothing, RefusedNew, HeldIsRefused}
+use Rattle.rf233.proofs.EveryCall.{every_call}
 
 module _ (d : Driver) (p : List ℕ) where
   -- what is claimed of a call that yields t

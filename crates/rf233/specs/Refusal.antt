@@ -1,5 +1,5 @@
 -- Demand 1: any call gets an answer, and one that is turned down starts no transfer, has no action, and alters neither driver nor pool,
--- save that `start`'s ALREADY (6) withdraws a waiting stop. It is said of the calls of demand 3 (Claim.antt), so that a new call joins
+-- save that `start`'s ALREADY (6) withdraws a waiting stop. It is said of the calls of Calls.antt, as demand 3 is, so that a new call joins
 -- both. And refusal 8's purpose: a buffer that the driver has is not lent again.
 use Rattle.std.specs.Prelude.{◌≡◌, ℕ, Bool, true, false, cond, T, List, [], ◌∷◌, ◌==◌, ◌≢◌, None}
 use Rattle.rf233.specs.Action.{actions}
@@ -11,8 +11,8 @@ use Rattle.rf233.specs.Driver.Flag.{sleep_pending}
 use Rattle.rf233.specs.Guard.{Called}
 use Rattle.rf233.specs.Record.{record_has}
 use Rattle.rf233.specs.declared.driver.Driver.{Driver}
-use Rattle.custody.specs.Claim.{Call, made}
-use Rattle.custody.specs.Claim.Call.{
+use Rattle.rf233.specs.Calls.{Call, made}
+use Rattle.rf233.specs.Calls.Call.{
   start,
   stop,
   commit,

@@ -25,8 +25,8 @@ use Rattle.rf233.specs.declared.transfer.TransferKind.TheVariants as transfer
 use Rattle.rf233.proofs.ChoiceLaws.{branch, either}
 use Rattle.rf233.proofs.EveryStep.{commit_by}
 use Rattle.rf233.proofs.Sound.{driver_right}
-use Rattle.custody.specs.Claim.{Call, made, with_pool}
-use Rattle.custody.specs.Claim.Call.{
+use Rattle.rf233.specs.Calls.{Call, made, with_pool}
+use Rattle.rf233.specs.Calls.Call.{
   start,
   stop,
   commit,
@@ -43,7 +43,7 @@ use Rattle.custody.specs.Claim.Call.{
   power,
   listener,
 }
-use Rattle.custody.specs.Refusal.{left_by}
+use Rattle.rf233.specs.Refusal.{left_by}
 
 -- the five of a reset
 abbrev pub reset_actions : List Action
