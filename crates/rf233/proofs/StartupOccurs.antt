@@ -80,11 +80,11 @@ unfolding all_may last
 all w [] h r = r
 all w (e ∷ es) h r = all (then w e) es (both_right (may w e) _ h) (one w e (both_left (may w e) _ h) r)
 
-pub begun : Driver
-begun = (new_call 129 26).driver
+pub fresh_driver : Driver
+fresh_driver = (new_call 129 26).driver
 
 abbrev begin : Point
-begin = record { seen = at_start (start_call begun pool).outcome; driver = after (start_call begun pool) }
+begin = record { seen = at_start (start_call fresh_driver pool).outcome; driver = after (start_call fresh_driver pool) }
 
 -- 28 completions, the last of them the PLL_ON write's; 27 where the first status is 8
 thirty : List Event
@@ -96,7 +96,7 @@ twenty_nine = replicate 27 (done 8 0) ++ (fired ∷ done 0 1 ∷ done 0 0 ∷ []
 pub record Occurs (n : ℕ) : Type 0 where
   pub seen : Seen
   pub driver : Driver
-  pub run : Starting begun pool seen driver
+  pub run : Starting fresh_driver pool seen driver
   pub count : seen.completions ≡ n
   pub ready : is_ready driver ≡ true
 
@@ -105,13 +105,13 @@ occurs : (n : ℕ) (es : List Event) → all_may begin es ≡ true → (last beg
 occurs n es h c r = record { seen = (last begin es).seen; driver = (last begin es).driver; run = all begin es h here; count = c; ready = r }
 
 pub occurs_30 : Occurs 30
-unfolding pool begun thirty then may all_may last begin_start start_call new_call described count_of completing completion_call fired_call
+unfolding pool fresh_driver thirty then may all_may last begin_start start_call new_call described count_of completing completion_call fired_call
     command_written completed interrupt_result interrupt_state frame_end ready_bookkeeping pending_interrupt waiting_commit frame_done
     handle_interrupt case_of perform eval trees tree_at holds register_transfer pick
 occurs_30 = occurs 30 thirty refl refl refl
 
 pub occurs_29 : Occurs 29
-unfolding pool begun twenty_nine then may all_may last begin_start start_call new_call described count_of completing completion_call fired_call
+unfolding pool fresh_driver twenty_nine then may all_may last begin_start start_call new_call described count_of completing completion_call fired_call
     command_written completed interrupt_result interrupt_state frame_end ready_bookkeeping pending_interrupt waiting_commit frame_done
     handle_interrupt case_of perform eval trees tree_at holds register_transfer pick
 occurs_29 = occurs 29 twenty_nine refl refl refl

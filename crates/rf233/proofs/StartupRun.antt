@@ -244,9 +244,9 @@ start_accepted {d} f p =
     subst (λ y. accepted (start_call y p) ≡ true → (start_call y p).outcome ≡ o) (sym f.is)
     (λ e. ap (λ (c : Called). c.outcome) (past (pool_fault (fresh d) p) _ _ refl e))
 
-pub begin : {d : Driver} (f : Fresh d) (p : List ℕ) → accepted (start_call d p) ≡ true
+pub start_stands : {d : Driver} (f : Fresh d) (p : List ℕ) → accepted (start_call d p) ≡ true
     → Stands (at_start (start_call d p).outcome) (after (start_call d p))
-begin {d} f p e =
+start_stands {d} f p e =
     let h = ap (λ (o : Outcome). (o.driver, seen_view (at_start o))) (start_accepted f p e) ∙ start_leads d in
     record {
       base = d;

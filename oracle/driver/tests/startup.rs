@@ -1,6 +1,8 @@
 //! The startup count of request 2026-04, on the Rust: from a new driver, READY with the
 //! radio on after exactly 30 completions if the status that arrives with the first
-//! TRX_STATUS read is 0, after exactly 29 if not, whatever the other bytes are.
+//! TRX_STATUS read is 0, after exactly 29 if not, whatever the other bytes, the settings
+//! and the refused calls are. A reset before `start`, which the request leaves out, changes
+//! nothing here.
 
 use oracle::random::Random;
 use oracle::run::{End, run};
@@ -13,18 +15,20 @@ enum Firing {
     AfterTheWrite,
 }
 
-/// Before `start`: the power listener, and a few settings or none.
+/// Before `start`: the power listener, and a few settings, or a reset, or none.
 fn before(random: &mut Random) -> String {
     let mut lines = "set_power_client 1\n".to_string();
     while random.percent(60) {
-        lines += &match random.within(0, 6) {
+        lines += &match random.within(0, 8) {
             0 => format!("set_address {}\n", random.within(0, 65535)),
             1 => format!("set_pan {}\n", random.within(0, 65535)),
             2 => format!("set_channel {}\n", random.within(11, 26)),
             3 => format!("set_tx_power {}\n", random.within(0, 30) as i64 - 22),
             4 => "set_transmit_client 1\n".to_string(),
             5 => "set_receive_client 1\n".to_string(),
-            _ => "set_config_client 1\n".to_string(),
+            6 => "set_config_client 1\n".to_string(),
+            7 => "set_config_client 0\n".to_string(),
+            _ => "reset 1\n".to_string(),
         };
     }
     lines
