@@ -27,7 +27,7 @@ use Rattle.rf233.specs.StartupClaim.{needed, is_over, is_ready, GoesOn, Arrives,
 use Rattle.rf233.specs.StartupClaim.GoesOn.{by_completion, by_firing}
 use Rattle.rf233.specs.StartupClaim.Run.{here, completes, fires}
 use Rattle.rf233.proofs.StartupStages.{fresh, on_stages, View, new_undescribed}
-use Rattle.rf233.proofs.StartupRun.{Fresh, prepared, skipped, number, Stands, holds, is_fired, pll_on_is, busy_is, out_at_2, out_at_30}
+use Rattle.rf233.proofs.StartupRun.{Fresh, prepared, skipped, number, Stands, holds, is_fired, pll_on_is, transfer_is, out_at_2, out_at_30}
 use Rattle.rf233.proofs.StartupRun.{number_next, after_completion, after_firing, start_stands, stands}
 
 -- ---- the count
@@ -73,7 +73,7 @@ module _ {s : Seen} {d : Driver} (k : Stands s d) where
   over_at o = eqb-true n 32 (sym over_is ∙ o)
 
   at_rest : is_over s ≡ true → to_complete d.buffers ≡ false
-  at_rest o = busy_is k ∙ ap (λ m. not (one_of (28 ∷ 32 ∷ []) m)) (over_at o)
+  at_rest o = transfer_is k ∙ ap (λ m. not (one_of (28 ∷ 32 ∷ []) m)) (over_at o)
 
   goes_on : is_over s ≡ false → GoesOn s d
   unfolding fired_call
@@ -81,14 +81,14 @@ module _ {s : Seen} {d : Driver} (k : Stands s d) where
     where
       with_firing : n ≡ 28 → GoesOn s d
       with_firing i =
-          by_firing (busy_is k ∙ ap (λ m. not (one_of (28 ∷ 32 ∷ []) m)) i)
+          by_firing (transfer_is k ∙ ap (λ m. not (one_of (28 ∷ 32 ∷ []) m)) i)
           (ap (in_no 27) k.is ∙ ((holds k).in_27 ∙ ap (one_of (27 ∷ 28 ∷ 29 ∷ 30 ∷ [])) i)) (is_fired k ∙ ap (leb 29) i)
           (λ p h. ap accepted (unguarded d p _ (passes p h)) ∙ done_is_accepted (handle_interrupt d) (done_handle d))
 
       with_completion : eqb n 28 ≡ false → GoesOn s d
       with_completion i =
           let j = sym over_is ∙ o in
-          let y = busy_is k ∙ rw (i, j) refl in
+          let y = transfer_is k ∙ rw (i, j) refl in
           by_completion y
           (λ xs p l h. is_accepted (record {
             passes = passes p h;

@@ -145,8 +145,8 @@ module _ {s : Seen} {d : Driver} (k : Stands s d) where
   pll_on_is = ap (λ (v : View). v.pll_on) k.view
 
   -- a transfer is under way but in 28 and 32
-  pub busy_is : to_complete d.buffers ≡ not (one_of (28 ∷ 32 ∷ []) n)
-  busy_is = ap (λ (y : Driver). to_complete y.buffers) k.is ∙ holds.busy
+  pub transfer_is : to_complete d.buffers ≡ not (one_of (28 ∷ 32 ∷ []) n)
+  transfer_is = ap (λ (y : Driver). to_complete y.buffers) k.is ∙ holds.under_way
 
   -- the first TRX_STATUS read is out in stage 2
   pub out_at_2 : first_status_out s ≡ eqb n 2
@@ -206,8 +206,8 @@ module _ {s : Seen} {d : Driver} (k : Stands s d) (xs p : List ℕ) (e : accepte
       let a = arrived d xs p in
       let c = (completion_call d xs p).outcome in
       let o = completion_accepted d xs p e ∙ ap (completed a) k.is in
-      let busy = not-true _ (sym (busy_is k) ∙ had_transfer d xs p e) in
-      let l = completion_leads k.base a (n k) k.among busy
+      let away = not-true _ (sym (transfer_is k) ∙ had_transfer d xs p e) in
+      let l = completion_leads k.base a (n k) k.among away
       (λ j. lock_shown (interrupt_out s) (bit_set 0 (get_or xs 1 0)) (bit_set 2 (get_or xs 1 0)) (out_at_30 k ∙ j) b) in
       enters k (next a (n k)) c l.among number_next
       (both o (seen_completion xs c s ∙ ap₂ (λ (o : Outcome) (v : View). completion_view o.reply.transfer v) o k.view) ∙ l.leads)

@@ -53,11 +53,11 @@ record Stage : Type 0 where
   handling : Bool
   pending : Bool
   wake_pending : Bool
-  busy : Bool
+  under_way : Bool
 
 -- a state's transfer under way
 sends : InternalState → Stage
-sends s = record { state = s; radio_on = false; handling = false; pending = false; wake_pending = true; busy = true }
+sends s = record { state = s; radio_on = false; handling = false; pending = false; wake_pending = true; under_way = true }
 
 -- 0 to 27: the transfer of this state. 28: in 27, the PLL_ON write is over. After the firing, 29: in 27, the PLL_ON write is not over; 30:
 -- IRQ_STATUS is read; 31: in READY, RX_AACK_ON is written; 32: READY with radio on
@@ -70,11 +70,11 @@ stages =
     ∷ sends state.START_IEEE3_SET ∷ sends state.START_IEEE4_SET ∷ sends state.START_IEEE5_SET ∷ sends state.START_IEEE6_SET
     ∷ sends state.START_IEEE7_SET ∷ sends state.START_SHORT0_SET ∷ sends state.START_SHORT1_SET ∷ sends state.START_CSMA_0_SEEDED
     ∷ sends state.START_CSMA_1_SEEDED ∷ sends state.START_RPC_SET ∷ sends state.ON_STATUS_READ ∷ sends state.ON_PLL_WAITING
-    ∷ record (sends state.ON_PLL_WAITING) { busy = false }
+    ∷ record (sends state.ON_PLL_WAITING) { under_way = false }
     ∷ record (sends state.ON_PLL_WAITING) { pending = true }
     ∷ record (sends state.ON_PLL_WAITING) { handling = true }
     ∷ sends state.READY
-    ∷ record (sends state.READY) { radio_on = true; wake_pending = false; busy = false }
+    ∷ record (sends state.READY) { radio_on = true; wake_pending = false; under_way = false }
     ∷ []
 
 -- a new driver with the settings and the listeners of x, and its length of spi_buf
@@ -86,7 +86,7 @@ staged : Driver → Stage → Driver
 staged x s =
     let b = (fresh x).buffers in
     with_state s.state (with_flags (flags_of s.radio_on false false false s.handling s.pending false false s.wake_pending false)
-    (with_buffers (with_under (pick s.busy Register Idle) (with_registers (not s.busy) b)) (fresh x)))
+    (with_buffers (with_under (pick s.under_way Register Idle) (with_registers (not s.under_way) b)) (fresh x)))
 
 pub stage : Driver → ℕ → Driver
 stage x n = staged x (get_or stages n (sends state.START))
@@ -163,7 +163,7 @@ module _ (x : Driver) (fits : within 129 160 x.buffers.spi_buf_whole ≡ true) w
   -- 2 of one; an interrupt is handled in 30; refusal 12 describes none
   pub record Holds (n : ℕ) : Type 0 where
     pub ready : is_ready (stage x n) ≡ eqb n 32
-    pub busy : to_complete (stage x n).buffers ≡ not (one_of (28 ∷ 32 ∷ []) n)
+    pub under_way : to_complete (stage x n).buffers ≡ not (one_of (28 ∷ 32 ∷ []) n)
     pub two : ltb (shorter (stage x n).buffers) 2 ≡ one_of (28 ∷ 32 ∷ []) n
     pub in_27 : in_no 27 (stage x n) ≡ one_of (27 ∷ 28 ∷ 29 ∷ 30 ∷ []) n
     pub in_2 : in_no 2 (stage x n) ≡ eqb n 2
@@ -175,7 +175,7 @@ module _ (x : Driver) (fits : within 129 160 x.buffers.spi_buf_whole ≡ true) w
   holds_at n h =
       record {
         ready = on_stages (λ m. is_ready (stage x m)) (λ m. eqb m 32) n h refl;
-        busy = on_stages (λ m. to_complete (stage x m).buffers) (λ m. not (one_of (28 ∷ 32 ∷ []) m)) n h refl;
+        under_way = on_stages (λ m. to_complete (stage x m).buffers) (λ m. not (one_of (28 ∷ 32 ∷ []) m)) n h refl;
         two = on_stages (λ m. ltb (shorter (stage x m).buffers) 2) (one_of (28 ∷ 32 ∷ [])) n h refl;
         in_27 = on_stages (λ m. in_no 27 (stage x m)) (one_of (27 ∷ 28 ∷ 29 ∷ 30 ∷ [])) n h refl;
         in_2 = on_stages (λ m. in_no 2 (stage x m)) (λ m. eqb m 2) n h refl;
