@@ -66,6 +66,7 @@ fresh_new l c =
     (λ t. record { is = refl; fits = refl })
 
 module _ {d : Driver} (f : Fresh d) where
+  -- and so it is with other settings
   with_others : (v : Settings) → Fresh (with_settings v d)
   with_others v = record { is = ap (with_settings v) f.is; fits = f.fits }
 

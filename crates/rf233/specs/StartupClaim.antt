@@ -76,7 +76,7 @@ abbrev pub also_sent : Option Transfer → List Transfer → List Transfer
 also_sent None l = l
 also_sent (Some t) l = t ∷ l
 
--- after `start`, after an accepted completion with these bytes, and after the firing
+-- what was seen after `start`, after an accepted completion with these bytes, and after the firing; a status is byte 0 with mask 0x1F
 abbrev pub at_start : Outcome → Seen
 at_start o = record { completions = 0; fired = false; sent = also_sent o.reply.transfer []; status = None }
 
