@@ -86,7 +86,7 @@ fresh_driver = (new_call 129 26).driver
 abbrev begin : Point
 begin = record { seen = at_start (start_call fresh_driver pool).outcome; driver = after (start_call fresh_driver pool) }
 
--- 28 completions, the last of them the PLL_ON write's; 27 where the first status is 8
+-- the firing before the completion of the PLL_ON write, which is the 28th; where the first status is 8 it is the 27th, the firing after it
 thirty : List Event
 thirty = replicate 27 (done 0 0) ++ (fired ∷ done 0 0 ∷ done 0 1 ∷ done 0 0 ∷ [])
 
@@ -104,14 +104,8 @@ occurs : (n : ℕ) (es : List Event) → all_may begin es ≡ true → (last beg
     → Occurs n
 occurs n es h c r = record { seen = (last begin es).seen; driver = (last begin es).driver; run = all begin es h here; count = c; ready = r }
 
-pub occurs_30 : Occurs 30
-unfolding pool fresh_driver thirty then may all_may last begin_start start_call new_call described count_of completing completion_call fired_call
-    command_written completed interrupt_result interrupt_state frame_end ready_bookkeeping pending_interrupt waiting_commit frame_done
-    handle_interrupt case_of perform eval trees tree_at holds register_transfer pick
-occurs_30 = occurs 30 thirty refl refl refl
-
-pub occurs_29 : Occurs 29
-unfolding pool fresh_driver twenty_nine then may all_may last begin_start start_call new_call described count_of completing completion_call fired_call
-    command_written completed interrupt_result interrupt_state frame_end ready_bookkeeping pending_interrupt waiting_commit frame_done
-    handle_interrupt case_of perform eval trees tree_at holds register_transfer pick
-occurs_29 = occurs 29 twenty_nine refl refl refl
+pub both_occur : Occurs 30 × Occurs 29
+unfolding pool fresh_driver thirty twenty_nine then may all_may last begin_start start_call new_call described count_of completing
+    completion_call fired_call command_written completed interrupt_result interrupt_state frame_end ready_bookkeeping pending_interrupt
+    waiting_commit frame_done handle_interrupt case_of perform eval trees tree_at holds register_transfer pick
+both_occur = (occurs 30 thirty refl refl refl, occurs 29 twenty_nine refl refl refl)
