@@ -28,7 +28,7 @@ use Rattle.rf233.specs.StartupClaim.GoesOn.{by_completion, by_firing}
 use Rattle.rf233.specs.StartupClaim.Run.{here, completes, fires}
 use Rattle.rf233.proofs.StartupStages.{fresh, on_stages, View, new_undescribed}
 use Rattle.rf233.proofs.StartupRun.{Fresh, prepared, skipped, number, Stands, holds, is_fired, pll_on_is, transfer_is, out_at_2, out_at_30}
-use Rattle.rf233.proofs.StartupRun.{number_next, after_completion, after_firing, start_stands, stands}
+use Rattle.rf233.proofs.StartupRun.{fresh_reset, number_next, after_completion, after_firing, start_stands, stands}
 
 -- ---- the count
 
@@ -179,5 +179,6 @@ pub startup_claim : StartupClaim
 startup_claim =
     record {
       starts = λ l c d q p h. start_is_accepted (prepared q) p h;
+      resets = λ l c d q v p. fresh_reset (prepared q) v p;
       counts = λ l c d e p s q a r. counted (stands (start_stands (prepared q) p a) r);
     }

@@ -10,10 +10,10 @@ use Rattle.rf233_const.specs.Status.{chip_status}
 use Rattle.rf233_const.specs.declared.register.RF233Register.TheVariants.{TRX_STATUS}
 use Rattle.rf233.specs.Choice.{pick, one_of, within}
 use Rattle.rf233.specs.Completion.{completed}
-use Rattle.rf233.specs.Config.{begin_start, start_call, channel_fits, set_power, set_channel}
+use Rattle.rf233.specs.Config.{begin_start, start_call, channel_fits, reset_call, set_power, set_channel}
 use Rattle.rf233.specs.Create.{new_call}
 use Rattle.rf233.specs.Driver.{flagged, with_settings}
-use Rattle.rf233.specs.Driver.Flag.{sleep_pending}
+use Rattle.rf233.specs.Driver.Flag.{transmitting, sleep_pending}
 use Rattle.rf233.specs.Guard.{Called, after, accepted, pool_fault}
 use Rattle.rf233.specs.Interrupt.{handle_interrupt}
 use Rattle.rf233.specs.Kernel.{completion_call, fired_call}
@@ -78,6 +78,13 @@ module _ {d : Driver} (f : Fresh d) where
   fresh_set p (channel c) = either (λ (o : Outcome). Fresh o.driver) _ _ _ (with_others _) f
   fresh_set p (power t) = either (λ (o : Outcome). Fresh o.driver) _ _ _ (with_others _) f
   fresh_set p (listener x v) = record { is = ap (λ y. set_client x y v) f.is; fits = f.fits }
+
+  -- a reset clears what is clear
+  pub fresh_reset : (v : Bool) (p : List ℕ) → after (made d (Call.reset v) p) ≡ d
+  unfolding made reset_call
+  fresh_reset v p =
+      either (λ (o : Outcome). o.driver ≡ d) v _ _
+      (ap (λ b. flagged transmitting b d) (sym (ap (λ (y : Driver). y.flags.transmitting) f.is))) refl
 
   fresh_kept : (x : Call) (p : List ℕ) → accepted (made d x p) ≡ false → Fresh (after (made d x p))
   fresh_kept x p r = subst Fresh (sym (kept d x p (ap (λ (y : Driver). y.flags.sleep_pending) f.is) r)) f

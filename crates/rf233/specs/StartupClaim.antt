@@ -170,8 +170,10 @@ pub record StartupCount (s : Seen) (d : Driver) : Type 0 where
   pub first_status : first_status_out s ≡ in_no 2 d
   pub interrupt : interrupt_out s ≡ d.flags.interrupt_handling
 
--- the claim, for every new driver, settings and refused calls before `start`: it is accepted with a whole pool, and its runs count
+-- the claim, for every new driver, settings and refused calls before `start`: it is accepted with a whole pool, and its runs count. A reset
+-- there, of which the request does not speak, would leave the driver as it is
 pub record StartupClaim : Type 0 where
   pub starts : (l c : ℕ) (d : Driver) → Prepared l c d → (p : List ℕ) → length p ≡ pool_length → accepted (start_call d p) ≡ true
+  pub resets : (l c : ℕ) (d : Driver) → Prepared l c d → (v : Bool) (p : List ℕ) → after (made d (Call.reset v) p) ≡ d
   pub counts : (l c : ℕ) (d e : Driver) (p : List ℕ) (s : Seen) → Prepared l c d → accepted (start_call d p) ≡ true → Starting d p s e
       → StartupCount s e
