@@ -158,6 +158,7 @@ counted : {s : Seen} {d : Driver} → Stands s d → StartupCount s d
 counted {s} {d} k =
     record {
       exact = ap is_ready k.is ∙ ((holds k).ready ∙ sym (over_is k));
+      firing = λ o. is_fired k ∙ ap (leb 29) (over_at k o);
       rests = at_rest k;
       further = refused_11 k;
       bounded = bounded_by s.completions s.status s.fired (is_fired k) k.among;

@@ -3,7 +3,7 @@
 use Rattle.std.proofs.Common.{◌≡◌, ℕ, suc, ◌+◌, ◌≤◌, Bool, true, false, cond, not, ◌&&◌, ◌||◌}
 use Rattle.std.proofs.Common.{eqb, leb, List, [], ◌∷◌, get_or}
 use Rattle.std.proofs.Common.{refl, sym, ap, ap₂, subst, ◌∙◌, arith}
-use borrow.Author.Tests.{leb-false, not-true}
+use borrow.Author.Tests.{eqb-false, leb-false, not-true}
 use Rattle.std.specs.Prelude.{Option, None, Some, is_some, is_none}
 use Rattle.rf233_const.specs.Bits.{bit_set}
 use Rattle.rf233_const.specs.Status.{chip_status}
@@ -25,7 +25,7 @@ use Rattle.rf233.specs.declared.driver.Settings.{Settings}
 use Rattle.rf233.specs.declared.transfer.Transfer.{Transfer}
 use Rattle.rf233.proofs.Accepted.{arrived, past, fired_accepted, completion_accepted, had_transfer}
 use Rattle.rf233.proofs.ChoiceLaws.{branch, either}
-use Rattle.laws.proofs.Logic.{left, is_true, both_left, both_right, clash}
+use Rattle.laws.proofs.Logic.{left, is_true, both_left, both_right, none_left, none_right, clash}
 use Rattle.rf233.specs.Calls.{Call, made}
 use Rattle.rf233.specs.Refusal.{withdraws}
 use Rattle.rf233.specs.StartupClaim.{Seen, Setting, Prepared, Run, also_sent, at_start, at_completion, at_firing}
@@ -35,7 +35,7 @@ use Rattle.rf233.specs.StartupClaim.Prepared.{new, set}
 use Rattle.rf233.specs.StartupClaim.Run.{here, completes, fires}
 use Rattle.rf233.proofs.Refusal.{refused_alters_nothing}
 use Rattle.rf233.proofs.StartupStages.{fresh, stage, no_stop, View, seen_view, stage_view, sent_view, completion_view, firing_view}
-use Rattle.rf233.proofs.StartupStages.{Holds, holds_at, on_stages, entered, start_leads, firing_leads, next, completion_leads}
+use Rattle.rf233.proofs.StartupStages.{Holds, holds_at, on_stages, entered, start_leads, firing_leads, next, next_among, completion_leads}
 
 -- ---- calls that are refused
 
@@ -217,8 +217,9 @@ module _ {s : Seen} {d : Driver} (k : Stands s d) (xs p : List ℕ) (e : accepte
       let away = not-true _ (sym (transfer_is k) ∙ had_transfer d xs p e) in
       let l = completion_leads k.base a (n k) k.among away
       (λ j. lock_shown (interrupt_out s) (bit_set 0 (get_or xs 1 0)) (bit_set 2 (get_or xs 1 0)) (out_at_30 k ∙ j) b) in
-      enters k (next a (n k)) c l.among number_next
-      (both o (seen_completion xs c s ∙ ap₂ (λ (o : Outcome) (v : View). completion_view o.reply.transfer v) o k.view) ∙ l.leads)
+      let last = eqb-false (n k) 32 (none_left (eqb (n k) 32) false (none_right (eqb (n k) 28) _ away)) in
+      enters k (next a (n k)) c (next_among a (n k) (omega (arith, last, k.among))) number_next
+      (both o (seen_completion xs c s ∙ ap₂ (λ (o : Outcome) (v : View). completion_view o.reply.transfer v) o k.view) ∙ l)
 
 module _ {s : Seen} {d : Driver} (k : Stands s d) (p : List ℕ) where
   -- the firing comes in 27 or 28

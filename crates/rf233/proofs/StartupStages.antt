@@ -216,39 +216,39 @@ next a n = suc n + pick (eqb n 2) (pick (eqb a.status 0) 0 1) 0
 plain : List ℕ
 plain = 0 ∷ 1 ∷ (range 3 25 ++ (29 ∷ 31 ∷ []))
 
-pub record Leads (x : Driver) (a : Arrived) (n : ℕ) : Type 0 where
-  pub leads : completion x a n ≡ entered x (next a n)
-  pub among : next a n ≤ 32
+-- which is a stage again, from each but the last
+pub next_among : (a : Arrived) (n : ℕ) → n ≤ 31 → next a n ≤ 32
+unfolding pick
+next_among a n h =
+    by_flag (eqb n 2)
+    (λ i. by_flag (eqb a.status 0) (λ e. rw (i, e) (omega arith)) (λ e. rw (i, e) (omega (arith, eqb-true n 2 i)))) (λ i. rw i (omega arith))
 
 module _ (x : Driver) (a : Arrived) where
-  from_plain : (n : ℕ) → one_of plain n ≡ true → Leads x a n
-  unfolding plain stage staged stages sends completed ready_bookkeeping pending_interrupt handle_interrupt waiting_commit frame_done case_of
-      perform eval trees tree_at register_transfer pick holds
-  from_plain n h =
+  abbrev To : ℕ → Type 0
+  To n = completion x a n ≡ entered x (next a n)
+
+  -- what completions lead to: in the plain stages, in 2, where the status is looked at, and in 30, where what is read from IRQ_STATUS shows
+  -- bit 0 and not bit 2, whatever bit 3 is
+  record Tested : Type 0 where
+    in_plain : map (completion x a) plain ≡ map (λ n. entered x (next a n)) plain
+    in_2 : To 2
+    in_30 : (pll_lock a ≡ true) × (rx_start a ≡ false) → To 30
+
+  tested : Tested
+  unfolding plain stage staged stages sends completed interrupt_result interrupt_state frame_end ready_bookkeeping pending_interrupt
+      handle_interrupt waiting_commit frame_done case_of perform eval trees tree_at register_transfer pick holds
+  tested =
       record {
-        leads = in_list (completion x a) (λ m. entered x (next a m)) plain n refl h;
-        among = leb-true (next a n) 32 (in_list (λ m. leb (next a m) 32) (λ m. true) plain n refl h);
+        in_plain = refl;
+        in_2 = by_flag (eqb a.status 0) (λ e. rw e refl) (λ e. rw e refl);
+        in_30 = λ b. rw (b.0, b.1, and-false (trx_end a)) refl;
       }
 
-  -- in 2 the status is looked at
-  from_2 : Leads x a 2
-  unfolding stage staged stages sends completed ready_bookkeeping pending_interrupt waiting_commit frame_done case_of perform eval trees
-      tree_at register_transfer pick holds
-  from_2 =
-      by_flag (eqb a.status 0) (λ e. record { leads = rw e refl; among = rw e (omega arith) })
-      (λ e. record { leads = rw e refl; among = rw e (omega arith) })
-
-  -- in 30 what is read from IRQ_STATUS shows bit 0 and not bit 2, whatever bit 3 is
-  from_30 : (pll_lock a ≡ true) × (rx_start a ≡ false) → Leads x a 30
-  unfolding stage staged stages sends completed ready_bookkeeping pending_interrupt waiting_commit frame_done case_of perform eval trees
-      tree_at register_transfer pick interrupt_result interrupt_state frame_end
-  from_30 b = record { leads = rw (b.0, b.1, and-false (trx_end a)) refl; among = omega arith }
-
   pub completion_leads : (n : ℕ) → n ≤ 32 → one_of (28 ∷ 32 ∷ []) n ≡ false
-      → (eqb n 30 ≡ true → (pll_lock a ≡ true) × (rx_start a ≡ false)) → Leads x a n
+      → (eqb n 30 ≡ true → (pll_lock a ≡ true) × (rx_start a ≡ false)) → To n
   unfolding plain
   completion_leads n h u b =
-      by_flag (eqb n 2) (λ i. subst (Leads x a) (sym (eqb-true n 2 i)) from_2)
-      (λ i. by_flag (eqb n 30) (λ j. subst (Leads x a) (sym (eqb-true n 30 j)) (from_30 (b j)))
-      (λ j. from_plain n (rw (u, i, j) at
+      by_flag (eqb n 2) (λ i. subst To (sym (eqb-true n 2 i)) tested.in_2)
+      (λ i. by_flag (eqb n 30) (λ j. subst To (sym (eqb-true n 30 j)) (tested.in_30 (b j)))
+      (λ j. in_list (completion x a) (λ m. entered x (next a m)) plain n tested.in_plain (rw (u, i, j) at
       (on_stages (λ m. one_of (28 ∷ 32 ∷ []) m || (eqb m 2 || (eqb m 30 || one_of plain m))) (λ m. true) n h refl))))

@@ -157,7 +157,8 @@ pub record Arrives (s : Seen) (d : Driver) : Type 0 where
 pub record StartupCount (s : Seen) (d : Driver) : Type 0 where
   -- READY with radio on after the Nth accepted completion, and after no earlier one
   pub exact : is_ready d ≡ is_over s
-  -- then no transfer is under way, and a further completion is 11, so that N is the most
+  -- then the firing has come, no transfer is under way, and a further completion is 11, so that N is the most
+  pub firing : is_over s ≡ true → s.fired ≡ true
   pub rests : is_over s ≡ true → to_complete d.buffers ≡ false
   pub further : is_over s ≡ true → (xs p : List ℕ) → length p ≡ pool_length → answered (completion_call d xs p) ≡ 11
   pub bounded : s.completions ≤ needed s.status
