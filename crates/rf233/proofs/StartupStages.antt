@@ -212,16 +212,16 @@ completion x a n = let o = completed a (stage x n) in (o.driver, completion_view
 abbrev pub next : Arrived → ℕ → ℕ
 next a n = suc n + pick (eqb n 2) (pick (eqb a.status 0) 0 1) 0
 
--- the stages with a transfer under way in which the bytes are not looked at
-plain : List ℕ
-plain = 0 ∷ 1 ∷ (range 3 25 ++ (29 ∷ 31 ∷ []))
-
 -- which is a stage again, from each but the last
 pub next_among : (a : Arrived) (n : ℕ) → n ≤ 31 → next a n ≤ 32
 unfolding pick
 next_among a n h =
-    by_flag (eqb n 2)
-    (λ i. by_flag (eqb a.status 0) (λ e. rw (i, e) (omega arith)) (λ e. rw (i, e) (omega (arith, eqb-true n 2 i)))) (λ i. rw i (omega arith))
+    by_flag (eqb n 2) (λ i. by_flag (eqb a.status 0) (λ e. rw (i, e) (omega arith)) (λ e. rw (i, e) (omega (arith, eqb-true n 2 i))))
+    (λ i. rw i (omega arith))
+
+-- the stages with a transfer under way in which the bytes are not looked at
+plain : List ℕ
+plain = 0 ∷ 1 ∷ (range 3 25 ++ (29 ∷ 31 ∷ []))
 
 module _ (x : Driver) (a : Arrived) where
   abbrev To : ℕ → Type 0
