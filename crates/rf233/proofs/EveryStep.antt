@@ -20,7 +20,8 @@ use Rattle.rf233.specs.Completion.{
 use Rattle.rf233.specs.Driver.{flag, with_flags, with_state}
 use Rattle.rf233.specs.Driver.Flag.{transmitting, interrupt_handling}
 use Rattle.rf233.specs.Interrupt.{handle_interrupt, interrupt_state}
-use Rattle.std.specs.Prelude.{Option, is_some}
+use Rattle.std.specs.Prelude.{Option}
+use Rattle.rf233.specs.Line.{line, some}
 use Rattle.rf233.specs.Rows.{Access}
 use Rattle.rf233.specs.Rows.Access.{none, reads, writes, reads_length, reads_frame, writes_frame}
 use Rattle.rf233.specs.Step.{done_step, quiet, transition_read, by_answer}
@@ -41,13 +42,13 @@ use Rattle.rf233.specs.declared.transfer.Transfer.{Transfer}
 use Rattle.rf233.proofs.ChoiceLaws.{branch, either}
 
 -- a fact of the driver that the phases of a completion keep: whatever flags but `transmitting` and `interrupt_handling` become; where the
--- interrupt's bits lead; in RX_START_READING where a receive buffer is held
+-- interrupt's bits lead; in RX_START_READING where a receive buffer is in the line
 pub record Kept (G : Driver → Type 0) : Type 0 where
   pub flags : (f : Flags) (d : Driver) → flag transmitting f ≡ flag transmitting d.flags
       → flag interrupt_handling f ≡ flag interrupt_handling d.flags
       → G d → G (with_flags f d)
   pub moves : (a : Arrived) (d : Driver) → G d → G (with_state (interrupt_state a d.state) d)
-  pub reads : (d : Driver) → T (is_some d.buffers.rx_buf) → G d → G (with_state RX_START_READING d)
+  pub reads : (d : Driver) → T (some (line d.buffers)) → G d → G (with_state RX_START_READING d)
 
 -- what holds of the steps in which a completion ends: a firing that was pending; the end of a frame, with a send waiting and without; a
 -- waiting commit; the state's own case

@@ -1,13 +1,13 @@
 -- The control facts of a driver, by which it is steered: one record of them, and what a row, the return of the buffers and the next state
 -- make of them, each as one equation. Assumes nothing.
 use Prim.Native.Nat.{ℕ}
-use mathlib.Core.Path.{◌≡◌, refl, ap, ◌∙◌}
-use mathlib.Core.Bool.{Bool, true, false, ◌||◌, cond}
+use mathlib.Core.Path.{◌≡◌, refl, ap, ◌∙◌, subst}
+use mathlib.Core.Bool.{Bool, true, false, ◌||◌, cond, or-false, or_assoc}
 use mathlib.Core.List.{List, [], ◌∷◌}
 use lib.Dec.{eqb}
 use Rattle.rf233_const.specs.Bits.{bit_set}
 use Rattle.rf233_const.specs.Flags.{rx_crc_valid_bit}
-use Rattle.rf233.specs.Case.{handed, entering, without_tx, without_rx}
+use Rattle.rf233.specs.Case.{handed, entering, without_tx, without_front, rotated}
 use Rattle.rf233.specs.Choice.{pick}
 use Rattle.rf233.specs.Completion.{buffers_back, frame_done, transfer_over}
 use Rattle.rf233.specs.Described.{frame_no}
@@ -15,15 +15,17 @@ use Rattle.rf233.specs.Driver.{Flag, Assignment, flag_no, flag, set_flag, assign
 use Rattle.rf233.specs.Driver.Assignment.{put, put_crc}
 use Rattle.rf233.specs.Driver.Flag.{transmitting, interrupt_handling, crc_valid}
 use Rattle.std.specs.Prelude.{is_some}
+use Rattle.rf233.specs.Line.{line, rotate, some}
 use Rattle.rf233.specs.Rows.{Shown, Next}
 use Rattle.rf233.specs.Rows.Next.{same, to}
-use Rattle.rf233.specs.Rows.Shown.{plain, power_changed, config_done, sent_back, dropped_back, received_back}
+use Rattle.rf233.specs.Rows.Shown.{plain, power_changed, config_done, sent_back, dropped_back, received_back, received_kept}
 use Rattle.rf233.specs.State.{state_no}
 use Rattle.rf233.specs.declared.driver.Buffers.{Buffers}
 use Rattle.rf233.specs.declared.driver.Driver.{Driver}
 use Rattle.rf233.specs.declared.driver.Under.{Under}
 use Rattle.rf233.specs.declared.driver.Under.TheVariants.{Idle, Register, FrameRead, FrameWrite}
 use Rattle.rf233.specs.declared.state.InternalState.{InternalState}
+use Rattle.rf233.proofs.LineLaws.{some_is, some_rotate}
 
 -- no transfer, a register transfer, a frame read, a frame write
 pub data Kind : Type 0 where
@@ -54,8 +56,8 @@ frame_no_lem Register = refl
 frame_no_lem (FrameRead x) = refl
 frame_no_lem (FrameWrite x) = refl
 
--- the control facts: the kind of transfer under way, the state's number, whether the transmit and the receive place are full, whether the
--- driver is transmitting and whether it handles an interrupt
+-- the control facts: the kind of transfer under way, the state's number, whether there is a buffer in the transmit place and one in the line,
+-- whether the driver is transmitting and whether it handles an interrupt
 pub record Facts : Type 0 where
   pub transfer : Kind
   pub state : ℕ
@@ -71,7 +73,7 @@ facts k n t r s h = record { transfer = k; state = n; tx = t; rx = r; sends = s;
 -- the facts of a driver
 abbrev pub of : Driver → Facts
 of d =
-    facts (kind d.buffers.under) (state_no d.state) (is_some d.buffers.tx_buf) (is_some d.buffers.rx_buf)
+    facts (kind d.buffers.under) (state_no d.state) (is_some d.buffers.tx_buf) (some (line d.buffers))
     (flag transmitting d.flags) (flag interrupt_handling d.flags)
 
 -- the same with another transfer, in another state, with other places, with other flags
@@ -95,7 +97,7 @@ final x [] v = v
 final x (put g w ∷ more) v = final x more (cond (eqb (flag_no g) (flag_no x)) w v)
 final x (put_crc ∷ more) v = final x more v
 
--- the facts once a row's actions have handed back the buffers that they name
+-- the facts once a row's actions have handed back the buffers that they name, as if there were no more than one in the line
 abbrev pub handed_back : List Shown → Facts → Facts
 handed_back [] c = c
 handed_back (plain x ∷ more) c = handed_back more c
@@ -104,6 +106,7 @@ handed_back (config_done ∷ more) c = handed_back more c
 handed_back (sent_back ∷ more) c = handed_back more (holding false c.rx c)
 handed_back (dropped_back ∷ more) c = handed_back more (holding false c.rx c)
 handed_back (received_back ∷ more) c = handed_back more (holding c.tx false c)
+handed_back (received_kept ∷ more) c = handed_back more c
 
 abbrev pub next_no : Next → ℕ → ℕ
 next_no same n = n
@@ -130,19 +133,57 @@ entering_is (to s) d = refl
 pub settled_is : (r : ℕ) (l : List Assignment) (m : Next) (d : Driver) → of (entering m (assigning r l d)) ≡ settled l m (of d)
 settled_is r l m d = entering_is m (assigning r l d) ∙ ap (at (next_no m (state_no d.state))) (assigned_is r l d)
 
-handed_is : (sh : List Shown) (d : Driver) → of (with_buffers (handed sh d.buffers) d) ≡ handed_back sh (of d)
-handed_is [] d = refl
+-- the same facts, and more in the line where v holds: what is there once its front has left is not steered by
+abbrev pub fuller : Bool → Facts → Facts
+fuller v c = holding c.tx (c.rx || v) c
+
+-- c, or c with more in the line
+pub record Fuller (c e : Facts) : Type 0 where
+  pub more : Bool
+  pub same : e ≡ fuller more c
+
+no_fuller : (c : Facts) → Fuller c c
+no_fuller c = record { more = false; same = rw or-false refl }
+
+two_fuller : {c e f : Facts} → Fuller c e → Fuller e f → Fuller c f
+two_fuller {c} p q = record { more = p.more || q.more; same = q.same ∙ ap (fuller q.more) p.same ∙ rw (or_assoc c.rx p.more q.more) refl }
+
+handed_fuller : (sh : List Shown) (c : Facts) (v : Bool) → Fuller (handed_back sh c) (handed_back sh (fuller v c))
+handed_fuller [] c v = record { more = v; same = refl }
+handed_fuller (plain x ∷ more) c v = handed_fuller more c v
+handed_fuller (power_changed ∷ more) c v = handed_fuller more c v
+handed_fuller (config_done ∷ more) c v = handed_fuller more c v
+handed_fuller (sent_back ∷ more) c v = handed_fuller more (holding false c.rx c) v
+handed_fuller (dropped_back ∷ more) c v = handed_fuller more (holding false c.rx c) v
+handed_fuller (received_back ∷ more) c v = no_fuller (handed_back more (holding c.tx false c))
+handed_fuller (received_kept ∷ more) c v = handed_fuller more c v
+
+-- the line with its front at the end is as full as before
+rotated_is : (d : Driver) → of (with_buffers (rotated d.buffers) d) ≡ of d
+rotated_is d =
+    let l = line d.buffers in
+    rw (some_is (rotate l) ∙ some_rotate l) refl
+
+handed_is : (sh : List Shown) (d : Driver) → Fuller (handed_back sh (of d)) (of (with_buffers (handed sh d.buffers) d))
+handed_is [] d = no_fuller (of d)
 handed_is (plain x ∷ more) d = handed_is more d
 handed_is (power_changed ∷ more) d = handed_is more d
 handed_is (config_done ∷ more) d = handed_is more d
 handed_is (sent_back ∷ more) d = handed_is more (with_buffers (without_tx d.buffers) d)
 handed_is (dropped_back ∷ more) d = handed_is more (with_buffers (without_tx d.buffers) d)
-handed_is (received_back ∷ more) d = handed_is more (with_buffers (without_rx d.buffers) d)
+handed_is (received_back ∷ more) d =
+    let e = with_buffers (without_front d.buffers) d in
+    two_fuller (handed_fuller more (holding (of d).tx false (of d)) (of e).rx) (handed_is more e)
+handed_is (received_kept ∷ more) d =
+    let e = with_buffers (rotated d.buffers) d in
+    subst (λ c. Fuller (handed_back more c) (of (with_buffers (handed more e.buffers) e))) (rotated_is d) (handed_is more e)
 
 -- of the driver before a row's access
 pub prepared_is : (r : ℕ) (l : List Assignment) (m : Next) (sh : List Shown) (d : Driver)
-    → let e = entering m (assigning r l d) in of (with_buffers (handed sh e.buffers) e) ≡ prepared l m sh (of d)
-prepared_is r l m sh d = handed_is sh (entering m (assigning r l d)) ∙ ap (handed_back sh) (settled_is r l m d)
+    → let e = entering m (assigning r l d) in Fuller (prepared l m sh (of d)) (of (with_buffers (handed sh e.buffers) e))
+prepared_is r l m sh d =
+    let e = entering m (assigning r l d) in
+    subst (λ c. Fuller (handed_back sh c) (of (with_buffers (handed sh e.buffers) e))) (settled_is r l m d) (handed_is sh e)
 
 -- ---- the return of the buffers
 
@@ -162,7 +203,8 @@ done_no_lem false s = go (eqb (state_no s) 34) (eqb (state_no s) 63) (eqb (state
     go false false true p q r = rw (p, q, r)
     go false false false p q r = rw (p, q, r)
 
--- the facts once the buffers are back: a frame transfer's place is full again, and no interrupt is handled
+-- the facts once the buffers are back: the place or the line that a frame transfer's buffer came from has it again, and no interrupt is
+-- handled
 abbrev pub back : Facts → Facts
 back c =
     facts nothing (done_no c.handles c.state) (eqb (frame_of c.transfer) 2 || c.tx) (eqb (frame_of c.transfer) 1 || c.rx)
@@ -172,12 +214,12 @@ back c =
 record Returned (u : Under) (b c : Buffers) : Type 0 where
   idle : kind c.under ≡ nothing
   tx : is_some c.tx_buf ≡ eqb (frame_of (kind u)) 2 || is_some b.tx_buf
-  rx : is_some c.rx_buf ≡ eqb (frame_of (kind u)) 1 || is_some b.rx_buf
+  rx : some (line c) ≡ eqb (frame_of (kind u)) 1 || some (line b)
 
 returned : (u : Under) (b : Buffers) → b.under ≡ u → Returned u b (buffers_back u b)
 returned Idle b e = record { idle = ap kind e; tx = refl; rx = refl }
 returned Register b e = record { idle = refl; tx = refl; rx = refl }
-returned (FrameRead x) b e = record { idle = refl; tx = refl; rx = refl }
+returned (FrameRead x) b e = record { idle = refl; tx = refl; rx = some_is (x ∷ line b) }
 returned (FrameWrite x) b e = record { idle = refl; tx = refl; rx = refl }
 
 pub over_is : (d : Driver) → of (transfer_over d) ≡ back (of d)

@@ -1,7 +1,8 @@
 -- What every driver that was new meets, beyond what refusal 12 asks (`fit`), over one record of the facts that steer it, and what follows
 -- from it by computing over all 69 states. Assumes nothing.
 use Prim.Native.Nat.{ℕ, ◌<◌}
-use mathlib.Core.Bool.{Bool, true, false, not, ◌&&◌, ◌||◌}
+use mathlib.Core.Path.{refl, sym, subst}
+use mathlib.Core.Bool.{Bool, true, false, not, ◌&&◌, ◌||◌, or-true, or-false}
 use mathlib.Core.List.{List, [], ◌∷◌}
 use lib.Dec.{T, eqb, leb, ltb, ltb→lt}
 use lib.ListN.{length}
@@ -12,29 +13,29 @@ use Rattle.rf233.specs.Driver.Flag.{transmitting}
 use Rattle.rf233.specs.Rows.{Access, Shown, Row, holds}
 use Rattle.rf233.specs.Rows.Access.{none, reads, writes, reads_length, reads_frame, writes_frame}
 use Rattle.rf233.specs.Rows.Row.{does}
-use Rattle.rf233.specs.Rows.Shown.{plain, power_changed, config_done, sent_back, dropped_back, received_back}
+use Rattle.rf233.specs.Rows.Shown.{plain, power_changed, config_done, sent_back, dropped_back, received_back, received_kept}
 use Rattle.rf233.specs.Rows.Test.{length_fits}
 use Rattle.rf233.specs.State.{state_no, state_frame}
 use Rattle.rf233.specs.declared.action.Action.{Action}
 use Rattle.rf233.specs.declared.action.Action.TheVariants as action
 use Rattle.rf233.specs.declared.arrived.Arrived.{Arrived}
 use Rattle.rf233.specs.declared.driver.Driver.{Driver}
-use Rattle.laws.proofs.Logic.{left, right, imp, apply, all, all_at, all_below, below_at}
-use Rattle.rf233.proofs.Facts.{Kind, kind, is_none, frame_of, Facts, facts, of, under, at, holding, flags, settled, prepared, back}
+use Rattle.laws.proofs.Logic.{left, right, pair, or_left, imp, apply, all, all_at, all_below, below_at}
+use Rattle.rf233.proofs.Facts.{Kind, kind, is_none, frame_of, Facts, facts, of, under, at, holding, flags, settled, prepared, back, Fuller, fuller}
 use Rattle.rf233.proofs.Facts.Kind.{nothing, access, reading, writing}
 use Rattle.rf233.proofs.Trees.{leaves, row_at, row_of, known, known_so}
 
--- states 33 and 35 to 43 have the transmit buffer in its place; 62, 64 and 66 to 68 the receive buffer
+-- states 33 and 35 to 43 have the transmit buffer in its place; 62, 64 and 66 to 68 a receive buffer in the line
 abbrev pub met : Facts → Bool
 met c =
     imp (eqb c.state 33 || (leb 35 c.state && leb c.state 43)) c.tx
     && imp (eqb c.state 62 || (eqb c.state 64 || (leb 66 c.state && leb c.state 68))) c.rx
 
--- by the transfer under way: a frame transfer has emptied its place; an interrupt is handled during a register transfer only
+-- by the transfer under way: a frame write has emptied its place; an interrupt is handled during a register transfer only
 abbrev pub fits : Kind → Facts → Bool
 fits nothing c = met c && (imp c.sends c.tx && not c.handles)
 fits access c = met c && imp c.sends c.tx
-fits reading c = not c.rx && (imp c.sends c.tx && not c.handles)
+fits reading c = imp c.sends c.tx && not c.handles
 fits writing c = not c.tx && not c.handles
 
 -- the state names the frame transfer that is under way, and no other
@@ -138,7 +139,7 @@ harmless action.ResetMakeOutput = true
 harmless (action.ResetClear n) = true
 harmless action.ResetSet = true
 
--- each buffer that a row's actions hand back is there
+-- each buffer that a row's actions hand back, or keep for a later frame, is there and at the front
 abbrev pub ok_shown : List Shown → Facts → Bool
 ok_shown [] c = true
 ok_shown (plain x ∷ more) c = harmless x && ok_shown more c
@@ -147,8 +148,10 @@ ok_shown (config_done ∷ more) c = ok_shown more c
 ok_shown (sent_back ∷ more) c = c.tx && ok_shown more (holding false c.rx c)
 ok_shown (dropped_back ∷ more) c = c.tx && ok_shown more (holding false c.rx c)
 ok_shown (received_back ∷ more) c = c.rx && ok_shown more (holding c.tx false c)
+ok_shown (received_kept ∷ more) c = c.rx && ok_shown more (holding c.tx false c)
 
--- an access carried out while no transfer is under way leaves what fits; f: the length is in its range; c: the facts before it
+-- an access carried out while no transfer is under way leaves what fits, as if there were no more than one buffer in the line; f: the length
+-- is in its range; c: the facts before it
 abbrev pub ok_access : Access → Bool → Facts → Bool
 ok_access none f c = fit c
 ok_access (reads x) f c = fit (under access c)
@@ -227,11 +230,7 @@ pub return_fits : Follows busy always (λ c. fit (back c))
 unfolding fit
 return_fits = law tt
 
--- a frame transfer's place is empty
-pub rx_empty : Follows any (λ c. eqb (frame_of c.transfer) 1) (λ c. not c.rx)
-unfolding fit
-rx_empty = law tt
-
+-- a frame write's place is empty
 pub tx_empty : Follows any (λ c. eqb (frame_of c.transfer) 2) (λ c. not c.tx)
 unfolding fit
 tx_empty = law tt
@@ -277,10 +276,35 @@ pub join_33 : Follows any (λ c. unused c && eqb c.state 29) (λ c. fit (flags t
 unfolding fit
 join_33 = law tt
 
--- the receive buffer
-pub rx_fits : Follows any (λ c. not (c.rx || eqb (frame_of c.transfer) 1)) (λ c. fit (holding c.tx true c))
+-- a buffer in the line: nothing that fits without one does not fit with one
+pub in_line : Follows any always (λ c. fit (holding c.tx true c))
 unfolding fit
-rx_fits = law tt
+in_line = law tt
+
+-- so with more in it than is asked
+pub fuller_fits : {c e : Facts} → Fuller c e → T (fit c) → T (fit e)
+fuller_fits {c} {e} f o = subst (λ x. T (fit x)) (sym f.same) (go f.more)
+  where
+    go : (v : Bool) → T (fit (fuller v c))
+    go true = rw or-true (in_line.gives c o tt tt)
+    go false = rw or-false o
+
+-- of an access likewise
+pub fuller_access : (x : Access) (f : Bool) {c e : Facts} → Fuller c e → T (ok_access x f c) → T (ok_access x f e)
+fuller_access x f {c} {e} p o = subst (λ z. T (ok_access x f z)) (sym p.same) (go x o)
+  where
+    w : (k : Kind) → Fuller (under k c) (under k (fuller p.more c))
+    w k = record { more = p.more; same = refl }
+
+    go : (x : Access) → T (ok_access x f c) → T (ok_access x f (fuller p.more c))
+    go none o = fuller_fits (record { more = p.more; same = refl }) o
+    go (reads r) o = fuller_fits (w access) o
+    go (writes r v) o = fuller_fits (w access) o
+    go reads_length o = pair (c.rx || p.more) _ (or_left c.rx p.more (left c.rx _ o)) (right c.rx _ o)
+    go reads_frame o =
+        let m = right f _ o in
+        pair f _ (left f _ o) (pair (c.rx || p.more) _ (or_left c.rx p.more (left c.rx _ m)) (right c.rx _ m))
+    go writes_frame o = pair c.tx _ (left c.tx _ o) (fuller_fits (record { more = p.more; same = refl }) (right c.tx _ o))
 
 -- what refusal 12 asks of state, transfer and places
 pub fit_frame : Follows any always

@@ -29,17 +29,19 @@ use Rattle.rf233.specs.Described.{
   client_above,
   length_bad,
   held_besides,
+  crowded,
   frame_no,
   frame_unfit,
   buffer_missing,
   described,
 }
 use Rattle.rf233.specs.Interrupt.{interrupt_state}
+use Rattle.rf233.specs.Line.{line, some}
 use Rattle.std.specs.Prelude.{is_some}
 use Rattle.rf233.specs.Rows.{Access, Shown, Row}
 use Rattle.rf233.specs.Rows.Access.{none, reads, writes, reads_length, reads_frame, writes_frame}
 use Rattle.rf233.specs.Rows.Row.{does}
-use Rattle.rf233.specs.Rows.Shown.{plain, power_changed, config_done, sent_back, dropped_back, received_back}
+use Rattle.rf233.specs.Rows.Shown.{plain, power_changed, config_done, sent_back, dropped_back, received_back, received_kept}
 use Rattle.rf233.specs.State.{state_no, state_frame}
 use Rattle.rf233.specs.declared.answer.Outcome.{Outcome}
 use Rattle.rf233.specs.declared.arrived.Arrived.{Arrived}
@@ -54,8 +56,8 @@ use Rattle.rf233.proofs.Fit.{framed, all_facts, facts_at}
 use Rattle.rf233.proofs.Trees.{leaves, unknown, row_of, row_of_lem}
 use Rattle.rf233.proofs.Keys.{state_below}
 
--- what a row takes: from the transmit place by a sent or dropped buffer or a frame write, from the receive place by a received buffer or a
--- frame read
+-- what a row takes: from the transmit place by a sent or dropped buffer or a frame write, from the front of the line by a received buffer,
+-- handed over or kept, or a frame read
 abbrev shown_tx : List Shown → Bool
 shown_tx [] = false
 shown_tx (plain x ∷ more) = shown_tx more
@@ -64,6 +66,7 @@ shown_tx (config_done ∷ more) = shown_tx more
 shown_tx (sent_back ∷ more) = true
 shown_tx (dropped_back ∷ more) = true
 shown_tx (received_back ∷ more) = shown_tx more
+shown_tx (received_kept ∷ more) = shown_tx more
 
 abbrev shown_rx : List Shown → Bool
 shown_rx [] = false
@@ -73,6 +76,7 @@ shown_rx (config_done ∷ more) = shown_rx more
 shown_rx (sent_back ∷ more) = shown_rx more
 shown_rx (dropped_back ∷ more) = shown_rx more
 shown_rx (received_back ∷ more) = true
+shown_rx (received_kept ∷ more) = true
 
 abbrev access_tx : Access → Bool
 access_tx none = false
@@ -96,7 +100,7 @@ takes_tx (does l x n s) = shown_tx s || access_tx x
 abbrev pub takes_rx : Row → Bool
 takes_rx (does l x n s) = shown_rx s || access_rx x
 
--- the states that document 01 names: 33 and 43 take the transmit buffer; 62, 64 and 68 the receive buffer
+-- the states that document 01 names: 33 and 43 take the transmit buffer; 62, 64 and 68 the buffer at the front of the line
 abbrev named_tx : ℕ → Bool
 named_tx n = one_of (33 ∷ 43 ∷ []) n
 
@@ -111,10 +115,10 @@ rows_take : T (all_below (λ n. leaves unknown (row_takes n) (tree_at n)) 69)
 unfolding tree_at trees
 rows_take = tt
 
--- each place that the row takes a buffer from is full
+-- where the row takes a buffer from there is one
 pub record Full (x : Row) (d : Driver) : Type 0 where
   pub transmit : T (takes_tx x) → T (is_some d.buffers.tx_buf)
-  pub receive : T (takes_rx x) → T (is_some d.buffers.rx_buf)
+  pub receive : T (takes_rx x) → T (some (line d.buffers))
 
 -- no buffer is missing where the state takes one
 abbrev missing : ℕ → Bool → Bool → Bool
@@ -134,7 +138,7 @@ full a d h =
     let n = state_no d.state in
     let x = row_of a d in
     let t = is_some d.buffers.tx_buf in
-    let r = is_some d.buffers.rx_buf in
+    let r = some (line d.buffers) in
     let takes = row_of_lem row_takes rows_take a d in
     record {
       transmit =
@@ -154,7 +158,7 @@ kept =
       moves = λ a d h.
           let H : InternalState → Type 0 = λ s. T (not (buffer_missing d.buffers (state_no s))) in
           either H _ _ _ tt (either H _ _ _ tt (either H _ _ _ tt h));
-      reads = λ d f h. rw (is_true (is_some d.buffers.rx_buf) f) tt;
+      reads = λ d f h. rw (is_true (some (line d.buffers)) f) tt;
     }
 
 -- the return of the buffers: where nothing is missing, and the state names the frame transfer and no interrupt is handled during one,
@@ -183,8 +187,9 @@ module _ (d : Driver) (e : described d ≡ false) where
   last_clauses : frame_unfit b.under n h || buffer_missing b n ≡ false
   unfolding described
   last_clauses =
-      none_right (held_besides b) _
-      (none_right (length_bad b) _ (none_right (client_above b) _ (none_right (own_nowhere b) _ (none_right (recorded_twice b) _ e))))
+      none_right (crowded b) _
+      (none_right (held_besides b) _
+      (none_right (length_bad b) _ (none_right (client_above b) _ (none_right (own_nowhere b) _ (none_right (recorded_twice b) _ e)))))
 
   unfit : frame_unfit b.under n h ≡ false
   unfit = none_left (frame_unfit b.under n h) (buffer_missing b n) last_clauses

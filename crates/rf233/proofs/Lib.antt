@@ -3,6 +3,7 @@ pub mod Answers
 pub mod Keys
 pub mod Tables
 pub mod ChoiceLaws
+pub mod LineLaws
 pub mod Trees
 pub mod Facts
 pub mod Fit

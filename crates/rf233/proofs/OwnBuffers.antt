@@ -2,7 +2,7 @@
 -- of the driver may change without 12 coming to describe it; a new driver. Assumes nothing.
 use mathlib.Core.Path.{◌≡◌, refl, sym, ◌∙◌}
 use mathlib.Core.Bool.{Bool, true, false, not, ◌&&◌, ◌||◌, and-false}
-use mathlib.Core.List.{[], ◌∷◌}
+use mathlib.Core.List.{List, [], ◌∷◌}
 use Prim.Native.Nat.{ℕ, ◌≤◌, ◌<◌}
 use native.Mathlib.Omega.{arith}
 use lib.Dec.{eqb, leb, ltb, lit<}
@@ -10,8 +10,9 @@ use borrow.Author.Tests.{ne_eqb, ltb-true, ltb-false, leb-true, le-leb, not-fals
 use Rattle.std.specs.Prelude.{Option, None, Some}
 use Rattle.rf233.specs.Choice.{pick, one_of, within}
 use Rattle.rf233.specs.Create.{new_driver}
-use Rattle.rf233.specs.Described.{described, slot_above, client_above, recorded_twice, own_nowhere, twice_below, frame_no}
-use Rattle.rf233.specs.Record.{count_of, slot_has, under_has, own_has, one, record_has}
+use Rattle.rf233.specs.Line.{line, any_of, buffers}
+use Rattle.rf233.specs.Described.{described, is_above, slot_above, client_above, recorded_twice, own_nowhere, twice_below, frame_no}
+use Rattle.rf233.specs.Record.{count_of, slot_has, under_has, own_has, one, record_has, times}
 use Rattle.rf233.specs.State.{state_no, state_frame}
 use Rattle.rf233.specs.Starter.{buffers_away, refrains, register_transfer}
 use Rattle.rf233.specs.Transfer.{under_way, free_to_start}
@@ -49,6 +50,13 @@ pub slot_below : (x : Option Lent) (k : ℕ) → 15 < k → slot_above x ≡ fal
 slot_below None k h e = refl
 slot_below (Some x) k h e = ne_eqb x.buffer k (λ q. omega (arith, ltb-false 15 x.buffer e))
 
+-- nor has the line
+pub line_below : (l : List Lent) (k : ℕ) → 15 < k → any_of is_above l ≡ false → times k (buffers l) ≡ 0
+line_below [] k h e = refl
+line_below (x ∷ l) k h e =
+    let other = ne_eqb x.buffer k (λ q. omega (arith, ltb-false 15 x.buffer (none_left (is_above x) (any_of is_above l) e))) in
+    rw other (omega (arith, line_below l k h (none_right (is_above x) (any_of is_above l) e)))
+
 module _ (r : Buffers) (k : ℕ) where
   -- not recorded twice, and under way: not in its own place
   away : ltb 1 (count_of r k) ≡ false → under_has r.under k ≡ true → own_has r k ≡ false
@@ -65,8 +73,8 @@ module _ (r : Buffers) (k : ℕ) where
         rw (
           u,
           slot_below r.tx_buf k h (none_left (slot_above r.tx_buf) _ c),
-          slot_below r.rx_buf k h
-              (none_left (slot_above r.rx_buf) _ (none_right (slot_above r.tx_buf) _ c)),
+          line_below (line r) k h
+              (none_left (any_of is_above (line r)) _ (none_right (slot_above r.tx_buf) _ c)),
         ) at (ltb-true 0 (count_of r k) e),
       ))
 
@@ -119,7 +127,7 @@ module _ (d : Driver) (f : described d ≡ false) where
   pub frame_home : (x : Lent) → d.buffers.under ≡ FrameRead x → (d.buffers.spi_tx ≡ true) × (d.buffers.spi_rx ≡ true)
   frame_home x u =
       let r = d.buffers in
-      let e = none_right (slot_above r.rx_buf) _ (none_right (slot_above r.tx_buf) _ above) in
+      let e = none_right (any_of is_above (line r)) _ (none_right (slot_above r.tx_buf) _ above) in
       let c = ltb-false 15 x.buffer (rw u at e) in
       (tx_home (rw (u, ne_eqb x.buffer 16 (λ q. omega arith))), rx_home (rw (u, ne_eqb x.buffer 17 (λ q. omega arith))))
 

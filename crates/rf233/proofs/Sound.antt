@@ -9,7 +9,8 @@ use borrow.Author.Tests.{leb-true, ltb-false, eqb-true, not-false}
 use mathlib.Core.List.{List}
 use lib.ListN.{length}
 use Rattle.rf233.specs.Pool.{read_buffer, write_length, read_length, shorter}
-use Rattle.rf233.specs.Described.{slot_above, under_slot, client_above, recorded_twice, own_nowhere, length_bad, described}
+use Rattle.rf233.specs.Line.{line, any_of}
+use Rattle.rf233.specs.Described.{is_above, slot_above, under_slot, client_above, recorded_twice, own_nowhere, length_bad, described}
 use Rattle.rf233.specs.Choice.{within}
 use Rattle.rf233.specs.Guard.{pool_fault}
 use Rattle.rf233.specs.declared.driver.Buffers.{Buffers}
@@ -48,7 +49,7 @@ in_pool (FrameWrite x) e = lit≤ tt
 pub read_fits : (d : Driver) → described d ≡ false → read_buffer d.buffers.under * 160 + 160 ≤ 3040
 read_fits d e =
     in_pool d.buffers.under
-    (none_right (slot_above d.buffers.rx_buf) _ (none_right (slot_above d.buffers.tx_buf) _ (client_right d e)))
+    (none_right (any_of is_above (line d.buffers)) _ (none_right (slot_above d.buffers.tx_buf) _ (client_right d e)))
 
 within_high : (low high n : ℕ) → within low high n ≡ true → n ≤ high
 within_high low high n e = leb-true n high (both_right (leb low n) (leb n high) e)

@@ -24,6 +24,7 @@ use Rattle.rf233.specs.Create.{new_call}
 use Rattle.rf233.specs.Power.{minus, setting_to_power, power_to_setting}
 use Rattle.rf233.specs.Record as rec
 use Rattle.rf233.specs.Described.{described}
+use Rattle.rf233.specs.Line.{line, front}
 use Rattle.rf233.specs.Record.{lent, record_has}
 use Rattle.rf233.specs.State.{state_no}
 use Rattle.rf233.specs.Transfer.{transfer_of, free_to_start}
@@ -213,5 +214,5 @@ pub record StarredCases : Type 0 where
   pub length_10 : NotReadOut 10
   pub length_128 : NotReadOut 128
   -- "After an interrupt detour the IRQ_STATUS value is taken for the length."
-  pub length_detour : (d : Driver) (xs p : List ℕ) (b l : ℕ) → Detours 64 d xs p → d.buffers.rx_buf ≡ Some (lent b l)
+  pub length_detour : (d : Driver) (xs p : List ℕ) (b l : ℕ) → Detours 64 d xs p → front (line d.buffers) ≡ Some (lent b l)
       → 11 ≤ get_or xs 1 0 → get_or xs 1 0 ≤ 127 → ReadsOut (get_or xs 1 0) b l (completion_call d xs p)

@@ -9,7 +9,7 @@ use lib.ListN.{replicate, length-replicate}
 use Rattle.rf233_const.specs.Bits.{bit_set}
 use Rattle.rf233.specs.Create.{new_driver}
 use Rattle.rf233.specs.Driver.{flagged, with_state, with_settings, with_addr, with_pan, with_buffers}
-use Rattle.rf233.specs.Driver.{with_registers, with_spi_buf, with_spi_buf_len, with_tx, with_rx, with_tx_len, with_under}
+use Rattle.rf233.specs.Driver.{with_registers, with_spi_buf, with_spi_buf_len, with_tx, with_line, with_tx_len, with_under}
 use Rattle.rf233.specs.declared.driver.Client.TheVariants as listener
 use Rattle.rf233.specs.Driver.Flag.{radio_on, interrupt_handling, config_pending}
 use Rattle.rf233.specs.Listeners.{set_client}
@@ -40,12 +40,12 @@ pool = replicate 3040 0
 
 -- a driver in this state, with every listener, PAN 0x1234 and address 0xABCD: w, a commit waits; h, an interrupt is handled; t and b, the
 -- buffers of a register transfer, and spi_buf, are in their places; then the client's places and the transfer under way
-abbrev example : InternalState → Bool → Bool → Bool → Bool → Option Lent → Option Lent → Under → Driver
+abbrev example : InternalState → Bool → Bool → Bool → Bool → Option Lent → List Lent → Under → Driver
 example s w h t b x y u =
     let new = new_driver 129 26 in
     let frames = set_client listener.Receive (set_client listener.Transmit new true) true in
     let listening = set_client listener.Power (set_client listener.Config frames true) true in
-    let held = with_under u (with_tx_len 10 (with_rx y (with_tx x (with_spi_buf_len 2 (with_spi_buf b (with_registers t new.buffers)))))) in
+    let held = with_under u (with_tx_len 10 (with_line y (with_tx x (with_spi_buf_len 2 (with_spi_buf b (with_registers t new.buffers)))))) in
     flagged radio_on true (flagged interrupt_handling h (flagged config_pending w
     (with_state s (with_buffers held (with_settings (with_pan 0x1234 (with_addr 0xABCD new.settings)) listening)))))
 
@@ -55,18 +55,18 @@ passes d e = record { pool = length-replicate {A = ℕ} 3040 0; fit = e }
 
 -- a register transfer under way
 abbrev during : Bool → InternalState → Driver
-during w s = example s w false false true None None Register
+during w s = example s w false false true None [] Register
 
 registers : (n : ℕ) (w : Bool) (s : InternalState) → In n (during w s) → described (during w s) ≡ false
     → Completes Register n (during w s) (0 ∷ 0 ∷ []) pool
 registers n w s i e =
     record { passes = passes (during w s) e; state = i; is_under_way = refl; arrived = refl; handling = refl; pending = refl }
 
--- a read of IRQ_STATUS under way, with this receive place
-abbrev detouring : InternalState → Option Lent → Driver
+-- a read of IRQ_STATUS under way, with this line
+abbrev detouring : InternalState → List Lent → Driver
 detouring s y = example s false true false true None y Register
 
-detours : (n : ℕ) (s : InternalState) (y : Option Lent) (r : ℕ) → In n (detouring s y) → described (detouring s y) ≡ false
+detours : (n : ℕ) (s : InternalState) (y : List Lent) (r : ℕ) → In n (detouring s y) → described (detouring s y) ≡ false
     → bit_set 2 r ≡ false
     → Detours n (detouring s y) (0 ∷ r ∷ []) pool
 detours n s y r i e b =
@@ -82,20 +82,20 @@ detours n s y r i e b =
     }
 
 pub record Occurs : Type 0 where
-  pub sleeping : Passes12 (example SLEEP false false true true None None Idle) pool
-  pub sendable : MaySend (example READY false false true true None None Idle) 3 pool
+  pub sleeping : Passes12 (example SLEEP false false true true None [] Idle) pool
+  pub sendable : MaySend (example READY false false true true None [] Idle) 3 pool
   pub in_10 : Completes Register 10 (during false START_XAH0_SET) (0 ∷ 0 ∷ []) pool
   pub in_11 : Completes Register 11 (during false START_PANID0_SET) (0 ∷ 0 ∷ []) pool
   pub in_29 : Completes Register 29 (during false READY) (0 ∷ 0 ∷ []) pool
   pub in_29_waiting : Completes Register 29 (during true READY) (0 ∷ 0 ∷ []) pool
   pub in_46 : Completes Register 46 (during false CONFIG_SHORT1_SET) (0 ∷ 0 ∷ []) pool
   pub in_47 : Completes Register 47 (during false CONFIG_PAN0_SET) (0 ∷ 0 ∷ []) pool
-  pub in_43 : Completes Register 43 (example TX_RETURN_TO_RX false false false true (Some (lent 3 130)) None Register)
+  pub in_43 : Completes Register 43 (example TX_RETURN_TO_RX false false false true (Some (lent 3 130)) [] Register)
       (0x16 ∷ 0x60 ∷ []) pool
-  pub in_63 : Completes (FrameRead (lent 4 129)) 63 (example RX_READING_FRAME_LEN false false true false None None (FrameRead (lent 4 129)))
+  pub in_63 : Completes (FrameRead (lent 4 129)) 63 (example RX_READING_FRAME_LEN false false true false None [] (FrameRead (lent 4 129)))
       (0 ∷ 127 ∷ []) pool
-  pub in_29_detour : Detours 29 (detouring READY None) (0 ∷ 0 ∷ []) pool
-  pub in_64 : Detours 64 (detouring RX_READING_FRAME_LEN_DONE (Some (lent 4 129))) (0 ∷ 11 ∷ []) pool
+  pub in_29_detour : Detours 29 (detouring READY []) (0 ∷ 0 ∷ []) pool
+  pub in_64 : Detours 64 (detouring RX_READING_FRAME_LEN_DONE (lent 4 129 ∷ [])) (0 ∷ 11 ∷ []) pool
 
 pub occurs : Occurs
 unfolding described count_of
@@ -120,6 +120,6 @@ occurs =
       in_47 = registers 47 _ _ refl refl;
       in_43 = record { passes = passes _ refl; state = refl; is_under_way = refl; arrived = refl; handling = refl; pending = refl };
       in_63 = record { passes = passes _ refl; state = refl; is_under_way = refl; arrived = refl; handling = refl; pending = refl };
-      in_29_detour = detours 29 READY None 0 refl refl refl;
-      in_64 = detours 64 RX_READING_FRAME_LEN_DONE (Some (lent 4 129)) 11 refl refl refl;
+      in_29_detour = detours 29 READY [] 0 refl refl refl;
+      in_64 = detours 64 RX_READING_FRAME_LEN_DONE (lent 4 129 ∷ []) 11 refl refl refl;
     }

@@ -1,7 +1,7 @@
 -- The starred cases of document 01 hold: `starred` proves the table of Starred.antt, corner by corner. Assumes nothing.
 use mathlib.Core.Path.{◌≡◌, refl, ap}
 use mathlib.Core.Bool.{true, false, ◌&&◌, and-false}
-use mathlib.Core.List.{List}
+use mathlib.Core.List.{List, ◌∷◌}
 use Prim.Native.Nat.{ℕ, ◌+◌, ◌≤◌}
 use native.Mathlib.Omega.{arith}
 use lib.Dec.{leb}
@@ -32,6 +32,7 @@ use Rattle.rf233.specs.Transmit.{acknowledged, failed}
 use Rattle.rf233.specs.Create.{new_call, new_driver}
 use Rattle.rf233.specs.Pool.{start_of}
 use Rattle.rf233.specs.Rows.{eval, holds}
+use Rattle.rf233.specs.Line.{line, front}
 use Rattle.rf233.specs.Record.{lent}
 use Rattle.rf233.specs.Transfer.{transfer_of}
 use Rattle.rf233.specs.Starter.{register_transfer, frame_read_into}
@@ -44,6 +45,7 @@ use Rattle.rf233.specs.declared.transfer.TransferKind.TheVariants as kind
 use Rattle.laws.proofs.Logic.{both_left}
 use Rattle.rf233.proofs.ChoiceLaws.{either}
 use Rattle.rf233.proofs.Accepted.{arrived}
+use Rattle.rf233.proofs.LineLaws.{front_is}
 use Rattle.rf233.proofs.Conditions.{by_flag}
 use Rattle.rf233.proofs.OwnBuffers.{tx_home, rx_home, buf_home, frame_home, new_fit}
 use Rattle.rf233.proofs.StarredSteps.{unguarded, sends, straight, write_case}
@@ -119,7 +121,7 @@ told result d xs p b l h t x s r =
 read_out : (n : ℕ) → leb 11 n ≡ true → leb n 127 ≡ true → ReadOut n
 unfolding case_of tree_at trees eval holds perform frame_read_into frame_done pick
 read_out n e f d xs p b l h r =
-    rw (straight h 64 refl (rw h.state) refl, r, e, f, h.is_under_way)
+    rw (straight h 64 refl (rw h.state) refl, r, e, f, h.is_under_way, front_is (lent b l ∷ line d.buffers))
     (record { transfer = ap (λ (k : ℕ). Some (transfer_of kind.FrameRead 18 b 0x20 n k l)) (omega arith); state = refl })
 
 not_read_out : (n : ℕ) → leb 11 n && leb n 127 ≡ false → NotReadOut n
@@ -136,7 +138,7 @@ unfolding completed interrupt_result interrupt_state frame_end ready_bookkeeping
 detour a d xs p h r =
     rw (h.handling, h.state, r, h.no_start, h.no_frame_lem, and-false (bit_set 3 (get_or xs 1 0)), h.state, h.pending, and-false)
 
-detoured : (d : Driver) (xs p : List ℕ) (b l : ℕ) → Detours 64 d xs p → d.buffers.rx_buf ≡ Some (lent b l) → 11 ≤ get_or xs 1 0
+detoured : (d : Driver) (xs p : List ℕ) (b l : ℕ) → Detours 64 d xs p → front (line d.buffers) ≡ Some (lent b l) → 11 ≤ get_or xs 1 0
     → get_or xs 1 0 ≤ 127
     → ReadsOut (get_or xs 1 0) b l (completion_call d xs p)
 unfolding completion_call completing case_of tree_at trees eval holds perform frame_read_into pick

@@ -1,5 +1,5 @@
 -- What is recorded twice or nowhere, found without counting (`uncounted`): where no client's place names an own buffer, a client's buffer
--- is recorded twice exactly if it stands twice in the list of those that the places name, however many places there are (`clients`), and
+-- is recorded twice exactly if it stands twice in the list of those that the places and the line name (`clients`), and
 -- an own buffer once exactly if it is in its own place while no transfer has it. Assumes nothing.
 use Prim.Native.Nat.{ℕ, zero, suc, ◌+◌, ◌<◌}
 use mathlib.Core.Path.{◌≡◌, refl, ap, subst}
@@ -11,9 +11,11 @@ use borrow.Author.Tests.{eqb-true, eqb-false, eq-eqb, ne_eqb, ltb-true, ltb-fals
 use Rattle.std.specs.Prelude.{Option, None, Some}
 use Rattle.rf233.proofs.Conditions.{by_flag}
 use Rattle.laws.proofs.Logic.{none_left, none_right, both_ways, or_left, or_right, or_case, or_left_comm}
-use Rattle.rf233.proofs.OwnBuffers.{only_16, only_17, only_18, slot_below}
-use Rattle.rf233.specs.Record.{slot_has, under_has, own_has, one, count_of, record_has}
+use Rattle.rf233.proofs.OwnBuffers.{only_16, only_17, only_18, slot_below, line_below}
+use Rattle.rf233.specs.Line.{line, any_of, buffers}
+use Rattle.rf233.specs.Record.{slot_has, under_has, own_has, one, times, count_of, record_has}
 use Rattle.rf233.specs.Described.{
+  is_above,
   slot_above,
   under_slot,
   twice_below,
@@ -21,8 +23,8 @@ use Rattle.rf233.specs.Described.{
   own_nowhere,
   client_above,
   named_in,
-  times,
   meets,
+  repeats,
   own_wrong,
 }
 use Rattle.rf233.specs.declared.driver.Buffers.{Buffers}
@@ -32,14 +34,9 @@ use Rattle.rf233.specs.declared.driver.Under.TheVariants.{Idle, Register, FrameR
 
 -- ---- a list that names a buffer twice
 
--- a list names a buffer again
-abbrev pub repeats : List ℕ → Bool
-repeats [] = false
-repeats (c ∷ l) = ltb 0 (times c l) || repeats l
-
--- the buffers that the client's places name
+-- the buffers that the client's places and the line name
 abbrev pub clients_named : Buffers → List ℕ
-clients_named r = named_in r.tx_buf ++ (named_in r.rx_buf ++ named_in (under_slot r.under))
+clients_named r = named_in r.tx_buf ++ (buffers (line r) ++ named_in (under_slot r.under))
 
 -- a buffer that a list names more than once stands again behind one of its elements
 names_again : (l : List ℕ) (k : ℕ) → 1 < times k l → T (repeats l)
@@ -104,20 +101,20 @@ meets_slot c (Some x) = go (eqb x.buffer c)
     go true = refl
     go false = refl
 
-pub meets_empty : (s : Option Lent) → meets (named_in s) [] ≡ false
-meets_empty None = refl
-meets_empty (Some x) = refl
+pub meets_empty : (l : List ℕ) → meets l [] ≡ false
+meets_empty [] = refl
+meets_empty (c ∷ l) = meets_empty l
 
--- the client's places, two by two
-pub pairs : (x y z : Option Lent) → (meets (named_in x) (named_in y) || meets (named_in x) (named_in z)) || meets (named_in y) (named_in z)
-    ≡ repeats (named_in x ++ (named_in y ++ named_in z))
-pairs x y z =
+-- the client's places and the line, two by two
+pub pairs : (x z : Option Lent) (l : List ℕ)
+    → (meets (named_in x) l || meets (named_in x) (named_in z)) || (meets l (named_in z) || repeats l)
+    ≡ repeats (named_in x ++ (l ++ named_in z))
+pairs x z l =
     rw (
-      repeats_append (named_in x) (named_in y ++ named_in z),
-      repeats_append (named_in y) (named_in z),
-      meets_append (named_in x) (named_in y) (named_in z),
+      repeats_append (named_in x) (l ++ named_in z),
+      repeats_append l (named_in z),
+      meets_append (named_in x) l (named_in z),
       named_once x,
-      named_once y,
       named_once z,
       or-false,
     )
@@ -156,8 +153,8 @@ module _ (r : Buffers) where
   abbrev tx : Option Lent
   tx = r.tx_buf
 
-  abbrev rx : Option Lent
-  rx = r.rx_buf
+  abbrev rx : List Lent
+  rx = line r
 
   abbrev going : Option Lent
   going = under_slot r.under
@@ -181,10 +178,9 @@ module _ (r : Buffers) where
         and-false r.spi_rx,
         and-false r.spi_buf,
         under_client r.under k h,
-        times_append k (named_in tx) (named_in rx ++ named_in going),
-        times_append k (named_in rx) (named_in going),
+        times_append k (named_in tx) (buffers rx ++ named_in going),
+        times_append k (buffers rx) (named_in going),
         named_times tx k,
-        named_times rx k,
         named_times going k,
       )
       (omega arith)
@@ -194,11 +190,11 @@ module _ (r : Buffers) where
     tx_low : slot_above tx ≡ false
     tx_low = none_left (slot_above tx) _ above
 
-    rx_low : slot_above rx ≡ false
-    rx_low = none_left (slot_above rx) _ (none_right (slot_above tx) _ above)
+    rx_low : any_of is_above rx ≡ false
+    rx_low = none_left (any_of is_above rx) _ (none_right (slot_above tx) _ above)
 
     going_low : slot_above going ≡ false
-    going_low = none_right (slot_above rx) _ (none_right (slot_above tx) _ above)
+    going_low = none_right (any_of is_above rx) _ (none_right (slot_above tx) _ above)
 
     -- what the places name is below 16
     named_low : (s : Option Lent) (k : ℕ) → slot_above s ≡ false → 0 < times k (named_in s) → k < 16
@@ -207,14 +203,18 @@ module _ (r : Buffers) where
         by_flag (eqb x.buffer k) (λ q. omega (arith, ltb-false 15 x.buffer e, eqb-true x.buffer k q))
         (λ q. absurd (omega (arith, rw q at h)))
 
+    line_low : (l : List Lent) (k : ℕ) → any_of is_above l ≡ false → 0 < times k (buffers l) → k < 16
+    line_low l k e h =
+        by_flag (ltb 15 k) (λ q. absurd (omega (arith, line_below l k (ltb-true 15 k q) e))) (λ q. omega (arith, ltb-false 15 k q))
+
     all_low : (k : ℕ) → 0 < times k (clients_named r) → k < 16
     all_low k h =
-        let x = times_append k (named_in tx) (named_in rx ++ named_in going) in
-        let y = times_append k (named_in rx) (named_in going) in
+        let x = times_append k (named_in tx) (buffers rx ++ named_in going) in
+        let y = times_append k (buffers rx) (named_in going) in
         by_flag (ltb 0 (times k (named_in tx))) (λ e. named_low tx k tx_low (ltb-true 0 (times k (named_in tx)) e))
-        (λ e. by_flag (ltb 0 (times k (named_in rx))) (λ f. named_low rx k rx_low (ltb-true 0 (times k (named_in rx)) f))
+        (λ e. by_flag (ltb 0 (times k (buffers rx))) (λ f. line_low rx k rx_low (ltb-true 0 (times k (buffers rx)) f))
         (λ f. named_low going k going_low
-        (omega (arith, x, y, ltb-false 0 (times k (named_in tx)) e, ltb-false 0 (times k (named_in rx)) f))))
+        (omega (arith, x, y, ltb-false 0 (times k (named_in tx)) e, ltb-false 0 (times k (buffers rx)) f))))
 
     clients : twice_below r 16 ≡ repeats (clients_named r)
     clients =
@@ -225,7 +225,7 @@ module _ (r : Buffers) where
 
     count_own : (k : ℕ) → 15 < k → count_of r k ≡ one (own_has r k) + 0 + 0 + one (under_has r.under k)
     unfolding count_of
-    count_own k h = rw (slot_below tx k h tx_low, slot_below rx k h rx_low)
+    count_own k h = rw (slot_below tx k h tx_low, line_below rx k h rx_low)
 
     twice_own : (k : ℕ) (a : Bool) → 15 < k → own_has r k ≡ a → twice k ≡ a && under_has r.under k
     twice_own k a h e = rw (count_own k h, e, own_twice)

@@ -4,7 +4,8 @@ use Rattle.rf233.specs.Action.{actions}
 use Rattle.rf233.specs.Step.{quiet, step_of}
 use Rattle.rf233.specs.Choice.{pick}
 use Rattle.rf233.specs.Commit.{commit_trees}
-use Rattle.rf233.specs.Driver.{client, assigning, with_state, with_buffers, with_tx, with_rx}
+use Rattle.rf233.specs.Driver.{client, assigning, with_state, with_buffers, with_tx, with_line}
+use Rattle.rf233.specs.Line.{line, behind, rotate}
 use Rattle.rf233.specs.Ready.{ready_trees}
 use Rattle.rf233.specs.Receive.{received, receive_trees}
 use Rattle.rf233.specs.Record.{buffer_in}
@@ -12,7 +13,7 @@ use Rattle.rf233.specs.Rows.{Access, Shown, Next, Row, Tree, eval, stay}
 use Rattle.rf233.specs.Rows.Access.{none, reads, writes, reads_length, reads_frame, writes_frame}
 use Rattle.rf233.specs.Rows.Next.{same, to}
 use Rattle.rf233.specs.Rows.Row.{does}
-use Rattle.rf233.specs.Rows.Shown.{plain, power_changed, config_done, sent_back, dropped_back, received_back}
+use Rattle.rf233.specs.Rows.Shown.{plain, power_changed, config_done, sent_back, dropped_back, received_back, received_kept}
 use Rattle.rf233.specs.Sleep.{sleep_trees}
 use Rattle.rf233.specs.Startup.{startup_trees}
 use Rattle.rf233.specs.State.{state_no}
@@ -44,6 +45,7 @@ show a d config_done l = pick (client listener.Config d.clients) (ConfigDone ∷
 show a d sent_back l = send_done d.buffers.tx_buf a.result ∷ l
 show a d dropped_back l = Dropped (buffer_in d.buffers.tx_buf) ∷ l
 show a d received_back l = received a.length d ∷ l
+show a d received_kept l = l
 
 -- the actions of a row, in order
 abbrev pub shown : Arrived → Driver → List Shown → List Action
@@ -54,11 +56,15 @@ shown a d (s ∷ more) = show a d s (shown a d more)
 abbrev pub without_tx : Buffers → Buffers
 without_tx b = with_tx None b
 
--- the record with the receive place emptied
-abbrev pub without_rx : Buffers → Buffers
-without_rx b = with_rx None b
+-- the record without the front of the line
+abbrev pub without_front : Buffers → Buffers
+without_front b = with_line (behind (line b)) b
 
--- the record once the buffers that a row's actions hand back have left their places
+-- the record with the front of the line at its end
+abbrev pub rotated : Buffers → Buffers
+rotated b = with_line (rotate (line b)) b
+
+-- the record once the buffers that a row's actions hand back have left their places, and one that is kept has gone to the end of the line
 abbrev pub handed : List Shown → Buffers → Buffers
 handed [] b = b
 handed (plain x ∷ more) b = handed more b
@@ -66,7 +72,8 @@ handed (power_changed ∷ more) b = handed more b
 handed (config_done ∷ more) b = handed more b
 handed (sent_back ∷ more) b = handed more (without_tx b)
 handed (dropped_back ∷ more) b = handed more (without_tx b)
-handed (received_back ∷ more) b = handed more (without_rx b)
+handed (received_back ∷ more) b = handed more (without_front b)
+handed (received_kept ∷ more) b = handed more (rotated b)
 
 -- the step of an access, with these actions
 abbrev pub accessed : Access → Arrived → Actions → Driver → Outcome

@@ -1,12 +1,12 @@
 -- The order of a completion (document 01, "What a step does"): buffer return, interrupt result, READY bookkeeping, pending interrupt,
 -- waiting commit, the state's own case. Each phase stands behind the one that it hands on to.
-use Rattle.std.specs.Prelude.{ℕ, Bool, true, false, not, ◌&&◌, ◌||◌, [], ◌∷◌, eqb, Some, is_some}
+use Rattle.std.specs.Prelude.{ℕ, Bool, true, false, not, ◌&&◌, ◌||◌, [], ◌∷◌, eqb, Some}
 use Rattle.rf233_const.specs.declared.register.RF233Register.TheVariants.{MIN, TRX_STATUS}
 use Rattle.rf233.specs.Case.{own_case}
 use Rattle.rf233.specs.Choice.{pick, one_of}
 use Rattle.rf233.specs.Commit.{start_commit}
 use Rattle.rf233.specs.Driver.{flag, flagged, assigning, with_state, with_buffers, in_no}
-use Rattle.rf233.specs.Driver.{with_registers, with_spi_buf, with_tx, with_rx, with_under}
+use Rattle.rf233.specs.Driver.{with_registers, with_spi_buf, with_tx, with_line, with_under}
 use Rattle.rf233.specs.Driver.Assignment.{put}
 use Rattle.rf233.specs.Driver.Flag.{
   radio_on,
@@ -19,6 +19,7 @@ use Rattle.rf233.specs.Driver.Flag.{
   power_client_pending,
 }
 use Rattle.rf233.specs.Interrupt.{handle_interrupt, rx_start, trx_end, interrupt_state}
+use Rattle.rf233.specs.Line.{line, some}
 use Rattle.rf233.specs.State.{state_no}
 use Rattle.rf233.specs.Step.{transition_read}
 use Rattle.rf233.specs.declared.answer.Outcome.{Outcome}
@@ -62,7 +63,7 @@ unfoldable pub frame_end : Arrived → Driver → Outcome
 frame_end a d =
     let e = flagged receiving false d in
     pick (trx_end a && flag receiving d.flags)
-    (pick (is_some d.buffers.rx_buf) (ready_bookkeeping a (with_state state.RX_START_READING e))
+    (pick (some (line d.buffers)) (ready_bookkeeping a (with_state state.RX_START_READING e))
     (pick (flag transmitting d.flags) (transition_read MIN TX_STATUS_PRECHECK1 e) (transition_read TRX_STATUS READY e)))
     (ready_bookkeeping a d)
 
@@ -72,11 +73,12 @@ interrupt_result a d =
     pick (one_of (30 ∷ 31 ∷ []) (state_no d.state)) (ready_bookkeeping a d)
     (frame_end a (flagged receiving (rx_start a || flag receiving d.flags) (with_state (interrupt_state a d.state) d)))
 
--- buffer return: own buffers to their own places, a frame write's other buffer to the transmit place, a frame read's to the receive place
+-- buffer return: own buffers to their own places, a frame write's other buffer to the transmit place, a frame read's to the front of the
+-- line
 abbrev pub buffers_back : Under → Buffers → Buffers
 buffers_back Idle b = b
 buffers_back Register b = with_under Idle (with_registers true b)
-buffers_back (FrameRead x) b = with_under Idle (with_rx (Some x) (with_spi_buf true b))
+buffers_back (FrameRead x) b = with_under Idle (with_line (x ∷ line b) (with_spi_buf true b))
 buffers_back (FrameWrite x) b = with_under Idle (with_tx (Some x) (with_spi_buf true b))
 
 -- the state once a frame transfer is over; while an interrupt is handled, the transfer was a register's

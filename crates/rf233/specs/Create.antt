@@ -10,6 +10,7 @@ use Rattle.rf233.specs.Power.{setting_to_power}
 use Rattle.rf233.specs.declared.answer.Outcome.{Outcome}
 use Rattle.rf233.specs.declared.driver.Driver.{Driver}
 use Rattle.rf233.specs.declared.driver.Under.TheVariants.{Idle}
+use Rattle.rf233.specs.declared.line.Line.TheVariants.{Empty}
 use Rattle.rf233.specs.declared.state.InternalState.TheVariants.{START}
 
 -- the driver of a length of spi_buf and a channel: in START, every flag clear, no listener, addresses 0, the power of setting 0, its own
@@ -29,7 +30,7 @@ new_driver l c =
             spi_buf_whole = l;
             spi_buf_len = l;
             tx_buf = None;
-            rx_buf = None;
+            rx_line = Empty;
             tx_len = 0;
             under = Idle;
           };

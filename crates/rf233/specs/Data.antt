@@ -5,11 +5,12 @@ use Rattle.rf233.specs.Action.{actions}
 use Rattle.rf233.specs.Step.{quiet, transition_read}
 use Rattle.rf233.specs.Answer.{refused}
 use Rattle.rf233.specs.Choice.{pick}
-use Rattle.rf233.specs.Driver.{flag, flagged, with_buffers, with_tx, with_rx, with_tx_len, in_no}
+use Rattle.rf233.specs.Driver.{flag, flagged, with_buffers, with_tx, with_line, with_tx_len, in_no}
 use Rattle.rf233.specs.Driver.Flag.{radio_on, transmitting, receiving}
 use Rattle.rf233.specs.Guard.{Called, refusing, stepping, guarded}
+use Rattle.rf233.specs.Line.{line_room, line, append}
 use Rattle.rf233.specs.Pool.{start_of}
-use Rattle.rf233.specs.Record.{lent, record_has, tx_under_way, rx_under_way}
+use Rattle.rf233.specs.Record.{lent, record_has, tx_under_way, receive_count}
 use Rattle.rf233.specs.declared.answer.Outcome.{Outcome}
 use Rattle.rf233.specs.declared.driver.Driver.{Driver}
 use Rattle.rf233.specs.declared.state.InternalState.TheVariants.{TX_STATUS_PRECHECK1}
@@ -22,9 +23,9 @@ handle_bad b l = ltb 15 b || ltb 160 l
 abbrev pub tx_busy : Driver → Bool
 tx_busy d = is_some d.buffers.tx_buf || (is_some (tx_under_way d.buffers.under) || flag transmitting d.flags)
 
--- refusal 10: a receive buffer is held or under way
+-- refusal 10: the driver has four receive buffers, in the line or under way
 abbrev pub rx_full : Driver → Bool
-rx_full d = is_some d.buffers.rx_buf || is_some (rx_under_way d.buffers.under)
+rx_full d = leb line_room (receive_count d.buffers)
 
 -- `transmit` of n bytes in buffer b of length l, once nothing stands against it: in READY, while nothing is being received, the send
 -- begins at once
@@ -46,11 +47,11 @@ transmit_call d b l n p =
     (pick (record_has d.buffers b) (refusing 8 d p)
     (stepping (begin_transmit d b l n) (set p (start_of b + 1) (n + 2)))))))))
 
--- the receive buffer's refusals in order: 7, 9, 10, 8
+-- the receive buffer's refusals in order: 7, 9, 10, 8; it goes to the end of the line
 unfoldable pub receive_buffer_call : Driver → ℕ → ℕ → Outcome
 receive_buffer_call d b l =
     pick (handle_bad b l) (refused 7 d)
     (pick (ltb l 129) (refused 9 d)
     (pick (rx_full d) (refused 10 d)
     (pick (record_has d.buffers b) (refused 8 d)
-    (quiet (with_buffers (with_rx (Some (lent b l)) d.buffers) d) (actions [])))))
+    (quiet (with_buffers (with_line (append (line d.buffers) (lent b l)) d.buffers) d) (actions [])))))

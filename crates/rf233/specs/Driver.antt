@@ -14,6 +14,7 @@ use Rattle.rf233.specs.declared.driver.Buffers.{Buffers}
 use Rattle.rf233.specs.declared.driver.Driver.{Driver}
 use Rattle.rf233.specs.declared.driver.Lent.{Lent}
 use Rattle.rf233.specs.declared.driver.Under.{Under}
+use Rattle.rf233.specs.Line.{line_of}
 
 -- the Rust's cells of a bool, in the order of `Flags`
 pub data Flag : Type 0 where
@@ -130,9 +131,9 @@ with_spi_buf_len l b = record b { spi_buf_len = l }
 abbrev pub with_tx : Option Lent → Buffers → Buffers
 with_tx x b = record b { tx_buf = x }
 
--- the record with another receive place
-abbrev pub with_rx : Option Lent → Buffers → Buffers
-with_rx y b = record b { rx_buf = y }
+-- the record with another line
+abbrev pub with_line : List Lent → Buffers → Buffers
+with_line l b = record b { rx_line = line_of l }
 
 -- the record with another n
 abbrev pub with_tx_len : ℕ → Buffers → Buffers

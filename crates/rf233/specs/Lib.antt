@@ -1,5 +1,6 @@
 pub mod Choice
 pub mod State
+pub mod Line
 pub mod Driver
 pub mod Action
 pub mod Transfer

@@ -1,6 +1,7 @@
 -- The places of a buffer (document 01, "The book of custody"): where the driver's record has it, in the book's numbers.
-use Rattle.std.specs.Prelude.{ℕ, Bool, cond, List, [], ◌∷◌}
-use Rattle.rf233.specs.Record.{slot_has, under_has, own_has}
+use Rattle.std.specs.Prelude.{ℕ, zero, suc, Bool, cond, List, [], ◌∷◌}
+use Rattle.rf233.specs.Line.{line, buffers}
+use Rattle.rf233.specs.Record.{slot_has, under_has, own_has, times}
 use Rattle.rf233.specs.declared.driver.Buffers.{Buffers}
 use Rattle.rf233.specs.declared.place.Place.{Place}
 use Rattle.rf233.specs.declared.place.Place.TheVariants.{Client, Own, Transmit, Receive, Transfer}
@@ -17,7 +18,7 @@ own_place = 1
 abbrev pub transmit_place : ℕ
 transmit_place = 2
 
--- the receive place
+-- the receive place, which is the line
 abbrev pub receive_place : ℕ
 receive_place = 3
 
@@ -37,11 +38,16 @@ place_no Transfer = transfer_place
 abbrev pub when : Bool → ℕ → List ℕ → List ℕ
 when t p l = cond t (p ∷ l) l
 
--- every place at which the record has buffer b
+-- the list with p in front as often as the number says
+abbrev pub copies : ℕ → ℕ → List ℕ → List ℕ
+copies zero p l = l
+copies (suc n) p l = p ∷ copies n p l
+
+-- every place at which the record has buffer b, once for each time that it has it there
 abbrev pub places_of : Buffers → ℕ → List ℕ
 places_of r b =
     when (own_has r b) own_place (when (slot_has r.tx_buf b) transmit_place
-    (when (slot_has r.rx_buf b) receive_place (when (under_has r.under b) transfer_place [])))
+    (copies (times b (buffers (line r))) receive_place (when (under_has r.under b) transfer_place [])))
 
 -- the first of some places; with none the buffer is with the client
 abbrev pub first_place : List ℕ → ℕ

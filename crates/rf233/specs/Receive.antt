@@ -6,12 +6,13 @@ use Rattle.rf233.specs.Choice.{pick}
 use Rattle.rf233.specs.Driver.{flag}
 use Rattle.rf233.specs.Driver.Assignment.{put, put_crc}
 use Rattle.rf233.specs.Driver.Flag.{transmitting, receiving, interrupt_handling, sleep_pending}
+use Rattle.rf233.specs.Line.{line, front}
 use Rattle.rf233.specs.Record.{buffer_in}
 use Rattle.rf233.specs.Rows.{Shown, Tree, stay, read, onward, commands}
 use Rattle.rf233.specs.Rows.Access.{reads, reads_length, reads_frame}
 use Rattle.rf233.specs.Rows.Next.{to}
 use Rattle.rf233.specs.Rows.Row.{does}
-use Rattle.rf233.specs.Rows.Shown.{received_back}
+use Rattle.rf233.specs.Rows.Shown.{received_back, received_kept}
 use Rattle.rf233.specs.Rows.Test.{length_fits, listens}
 use Rattle.rf233.specs.Rows.Tree.{leaf, ask}
 use Rattle.rf233.specs.Step.{transition_read}
@@ -32,16 +33,16 @@ received_length byte = byte - 2
 abbrev pub received_valid : ℕ → Bool → Bool
 received_valid byte v = leb 2 byte && v
 
--- the notice of a received frame
+-- the notice of a received frame, in the buffer at the front of the line
 abbrev pub received : ℕ → Driver → Action
-received byte d = Received (buffer_in d.buffers.rx_buf) (received_length byte) (received_valid byte d.flags.crc_valid)
+received byte d = Received (buffer_in (front (line d.buffers))) (received_length byte) (received_valid byte d.flags.crc_valid)
 
 -- TRX_STATUS is read, and the next state is the beginning of a send where one waits
 unfoldable pub onward_read : Driver → Outcome
 onward_read d =
     pick (flag transmitting d.flags) (transition_read TRX_STATUS TX_STATUS_PRECHECK1 d) (transition_read TRX_STATUS READY d)
 
--- 68: reception is over, and a waiting stop is withdrawn
+-- 68: reception is over, and a waiting stop is withdrawn. The listener is handed the buffer; with none it goes to the end of the line
 abbrev reception_over : List Shown → InternalState → Tree
 reception_over l n = leaf (does (put receiving false ∷ put sleep_pending false ∷ []) (reads TRX_STATUS) (to n) l)
 
@@ -57,5 +58,5 @@ receive_trees =
     ∷ stay
     ∷ read PHY_RSSI state.RX_READING_FRAME_FCS_DONE
     ∷ leaf (does (put_crc ∷ []) (commands cmd.RX_AACK_ON) (to state.RX_ENABLING_RECEPTION) [])
-    ∷ ask (listens listener.Receive) (onward (reception_over (received_back ∷ []))) (onward (reception_over []))
+    ∷ ask (listens listener.Receive) (onward (reception_over (received_back ∷ []))) (onward (reception_over (received_kept ∷ [])))
     ∷ []

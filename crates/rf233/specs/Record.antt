@@ -1,5 +1,6 @@
 -- The driver's record of its buffers: what each place has, and at how many places a buffer is.
-use Rattle.std.specs.Prelude.{ℕ, ◌+◌, Bool, true, false, ◌&&◌, ◌||◌, eqb, ltb, Option, None, Some}
+use Rattle.std.specs.Prelude.{ℕ, ◌+◌, Bool, true, false, ◌&&◌, ◌||◌, List, [], ◌∷◌, eqb, ltb, length, Option, None, Some, is_some}
+use Rattle.rf233.specs.Line.{line, buffers}
 use Rattle.rf233.specs.declared.driver.Buffers.{Buffers}
 use Rattle.rf233.specs.declared.driver.Lent.{Lent}
 use Rattle.rf233.specs.declared.driver.Under.{Under}
@@ -36,9 +37,14 @@ abbrev pub one : Bool → ℕ
 one true = 1
 one false = 0
 
--- at how many places the record has buffer b: its own, transmit, receive, the transfer under way
+-- how often a list names buffer b
+abbrev pub times : ℕ → List ℕ → ℕ
+times b [] = 0
+times b (c ∷ l) = one (eqb c b) + times b l
+
+-- at how many places the record has buffer b: its own, transmit, the line's, the transfer under way
 unfoldable pub count_of : Buffers → ℕ → ℕ
-count_of r b = one (own_has r b) + one (slot_has r.tx_buf b) + one (slot_has r.rx_buf b) + one (under_has r.under b)
+count_of r b = one (own_has r b) + one (slot_has r.tx_buf b) + times b (buffers (line r)) + one (under_has r.under b)
 
 -- the driver has buffer b
 abbrev pub record_has : Buffers → ℕ → Bool
@@ -57,3 +63,7 @@ rx_under_way Idle = None
 rx_under_way Register = None
 rx_under_way (FrameRead x) = Some x
 rx_under_way (FrameWrite x) = None
+
+-- how many receive buffers the driver has: those in the line and the one under way
+abbrev pub receive_count : Buffers → ℕ
+receive_count r = length (line r) + one (is_some (rx_under_way r.under))

@@ -36,10 +36,10 @@ pub data Access : Type 0 where
   reads_length reads_frame writes_frame : Access
 
 -- what a row shows: an action as it stands; a notice to the power or the config listener, if it is there; a buffer handed back, with
--- values from the driver and the arrived bytes
+-- values from the driver and the arrived bytes; of a received buffer that nobody is told of, nothing: it goes to the end of the line
 pub data Shown : Type 0 where
   plain : Action → Shown
-  power_changed config_done sent_back dropped_back received_back : Shown
+  power_changed config_done sent_back dropped_back received_back received_kept : Shown
 
 -- the state stays, or is this one
 pub data Next : Type 0 where

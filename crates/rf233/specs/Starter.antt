@@ -5,7 +5,8 @@ use Rattle.rf233_const.specs.Command as command
 use Rattle.rf233_const.specs.Register.{register_address}
 use Rattle.rf233_const.specs.declared.register.RF233Register.{RF233Register}
 use Rattle.rf233.specs.Choice.{pick}
-use Rattle.rf233.specs.Driver.{with_buffers, with_registers, with_spi_buf, with_spi_buf_len, with_tx, with_rx, with_under}
+use Rattle.rf233.specs.Driver.{with_buffers, with_registers, with_spi_buf, with_spi_buf_len, with_tx, with_line, with_under}
+use Rattle.rf233.specs.Line.{line, front, behind}
 use Rattle.rf233.specs.Transfer.{transfer_of, free_to_start}
 use Rattle.rf233.specs.declared.driver.Buffers.{Buffers}
 use Rattle.rf233.specs.declared.driver.Driver.{Driver}
@@ -19,11 +20,11 @@ use Rattle.rf233.specs.declared.transfer.Transfer.{Transfer}
 use Rattle.rf233.specs.declared.transfer.TransferKind.{TransferKind}
 use Rattle.rf233.specs.declared.transfer.TransferKind.TheVariants as kind
 
--- the record once a transfer has taken its buffers: 16 and 17, or 18 and the one in the receive or the transmit place
+-- the record once a transfer has taken its buffers: 16 and 17, or 18 and the one at the front of the line or in the transmit place
 abbrev pub buffers_away : Under → Buffers → Buffers
 buffers_away Idle b = b
 buffers_away Register b = with_under Register (with_registers false b)
-buffers_away (FrameRead x) b = with_under (FrameRead x) (with_rx None (with_spi_buf false b))
+buffers_away (FrameRead x) b = with_under (FrameRead x) (with_line (behind (line b)) (with_spi_buf false b))
 buffers_away (FrameWrite x) b = with_under (FrameWrite x) (with_tx None (with_spi_buf false b))
 
 -- a transfer is under way, and nothing begins
@@ -55,8 +56,8 @@ register_read reg d = register_transfer kind.RegisterRead (command.register_read
 abbrev pub register_write : RF233Register → ℕ → Driver → Started
 register_write reg v d = register_transfer kind.RegisterWrite (command.register_write (register_address reg)) v d
 
--- frame read of n into this place, which is full where a row asks for it (`unwrap_holds` in proofs/FullPlace.antt): 0x20 and whatever
--- stands in buffer 18, 2 + n bytes, the length that 18 then has; into the buffer there, at its own length
+-- frame read of n into this buffer, which there is where a row asks for it (`unwrap_holds` in proofs/FullPlace.antt): 0x20 and whatever
+-- stands in buffer 18, 2 + n bytes, the length that 18 then has; into that buffer, at its own length
 unfoldable pub frame_read_into : Option Lent → ℕ → Driver → Started
 frame_read_into None n d = refrains d
 frame_read_into (Some x) n d =
@@ -66,9 +67,9 @@ frame_read_into (Some x) n d =
     (with_spi_buf_len (n + 2) (buffers_away (FrameRead x) b)) d)
     (refrains d)
 
--- frame read of n, into the receive buffer
+-- frame read of n, into the buffer at the front of the line
 abbrev pub frame_read : ℕ → Driver → Started
-frame_read n d = frame_read_into d.buffers.rx_buf n d
+frame_read n d = frame_read_into (front (line d.buffers)) n d
 
 -- frame write of n from this place, likewise full: 0x60, n and the frame from the buffer there, 2 + n bytes; into buffer 18, at the length
 -- that it has

@@ -39,7 +39,7 @@ impl Buffers {
             }
             Under::FrameRead(x) => {
                 self.spi_buf = true;
-                self.rx_buf = Some(x);
+                self.rx_line = self.rx_line.before(x);
             }
             Under::FrameWrite(x) => {
                 self.spi_buf = true;
@@ -142,7 +142,7 @@ impl Driver {
     {
         if interrupt_included(a.result, InteruptFlags::IRQ_3_TRX_END) && self.flags.receiving {
             self.flags.receiving = false;
-            if self.buffers.rx_buf.is_some() {
+            if !self.buffers.rx_line.is_empty() {
                 self.state = InternalState::RX_START_READING;
                 return self.ready_bookkeeping(a);
             }

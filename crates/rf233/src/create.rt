@@ -5,6 +5,7 @@ ghost use Rattle.rf233.specs.Create.{new_call, new_driver};
 use crate::answer::{Answer, Outcome};
 use crate::config::channel_fits;
 use crate::driver::{Buffers, Clients, Driver, Flags, Settings, Under};
+use crate::line::Line;
 use crate::power::setting_to_power;
 use crate::state::InternalState;
 
@@ -31,7 +32,7 @@ impl Driver {
                 spi_buf_whole: length,
                 spi_buf_len: length,
                 tx_buf: None,
-                rx_buf: None,
+                rx_line: Line::Empty,
                 tx_len: 0,
                 under: Under::Idle,
             },

@@ -5,6 +5,7 @@ ghost use Rattle.rf233.specs.Data.{begin_transmit, handle_bad, receive_buffer_ca
 
 use crate::answer::{Answer, Outcome};
 use crate::driver::{Driver, Lent, Under};
+use crate::line::LINE_ROOM;
 use crate::pool::put_length;
 use crate::state::InternalState;
 use rf233_const::register::RF233Register;
@@ -26,11 +27,11 @@ impl Driver {
             || self.flags.transmitting
     }
 
-    // Refusal 10: a receive buffer is held or under way.
+    // Refusal 10: the driver has four receive buffers, in the line or under way.
     fn rx_full(self) -> bool
         ensures { result ≡ rx_full self }
     {
-        self.buffers.rx_buf.is_some() || matches!(self.buffers.under, Under::FrameRead(_))
+        LINE_ROOM <= self.buffers.receive_count()
     }
 
     // The buffer is held and the driver is transmitting; in READY, while nothing is being received, the send begins at once.
@@ -92,7 +93,7 @@ impl Driver {
         self.begin_transmit(buffer, length, frame_len).written(pool)
     }
 
-    // A buffer of `length` to receive into.
+    // A buffer of `length` to receive into; it goes to the end of the line.
     #[tactic(auto, unfolding(crate::specs::Data::receive_buffer_call, crate::specs::Choice::pick))]
     pub fn set_receive_buffer(mut self, buffer: usize, length: usize) -> Outcome
         ensures { result ≡ receive_buffer_call self buffer length }
@@ -110,7 +111,7 @@ impl Driver {
         if self.buffers.has(buffer) {
             return Outcome::answered(Answer::Held, self);
         }
-        self.buffers.rx_buf = Some(Lent { buffer, length });
+        self.buffers.rx_line = self.buffers.rx_line.append(Lent { buffer, length });
         Outcome::done(self)
     }
 }

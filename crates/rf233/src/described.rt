@@ -6,23 +6,26 @@ ghost use Rattle.rf233.specs.Described.{
   described,
   frame_bad,
   frame_no,
+  meets,
+  named_in,
   own_wrong,
-  rx_length_bad,
-  same_buffer,
+  receive_bad,
   slot_above,
   tx_length_bad,
 };
+ghost use Rattle.rf233.specs.Line.{buffers, line, listed};
 ghost use Rattle.rf233.specs.State.{state_frame, state_no};
 
 use crate::driver::{Buffers, Driver, Lent, Under};
+use crate::line::{LINE_ROOM, Line};
 use crate::record::slot_has;
 use crate::state::InternalState;
 
-// The two places name the same buffer.
-fn same_buffer(x: Option<Lent>, y: Option<Lent>) -> bool
-    ensures { result ≡ same_buffer x y }
+// The place names a buffer that is in the line too.
+fn is_in_line(slot: Option<Lent>, line: Line) -> bool
+    ensures { result ≡ meets (named_in slot) (buffers (listed line)) }
 {
-    x.is_some_and(|x| slot_has(y, x.buffer))
+    slot.is_some_and(|x| line.has(x.buffer))
 }
 
 // A transmit buffer, held or under way, that is no client's, or with a length or an n out of bounds. It and the next are two functions,
@@ -34,37 +37,38 @@ fn tx_bad(slot: Option<Lent>, n: u8) -> bool
         || !((2..=127).contains(&n) && (n + 3..=160).contains(&x.length)))
 }
 
-// A receive buffer, held or under way, that is no client's, or with a length out of bounds.
-fn rx_bad(slot: Option<Lent>) -> bool
-    ensures { result ≡ (slot_above slot || rx_length_bad slot) }
-{
-    slot.is_some_and(|x| 15 < x.buffer || !(129..=160).contains(&x.length))
+impl Lent {
+    // As a receive buffer, in the line or under way, it is no client's, or has a length out of bounds.
+    pub(crate) fn is_receive_bad(self) -> bool
+        ensures { result ≡ receive_bad self }
+    {
+        15 < self.buffer || !(129..=160).contains(&self.length)
+    }
 }
 
 impl Buffers {
     // What is wrong with the transfer under way: an own buffer is in its own place exactly while the transfer does not have it, and a
     // frame transfer's client's buffer is asked like a held one.
     fn going_bad(self, handling: bool) -> bool
-        ensures { result ≡ (own_wrong self.under self || frame_bad self.under self.tx_buf self.rx_buf self.tx_len handling) }
+        ensures { result ≡ (own_wrong self.under self || frame_bad self.under self.tx_buf (line self) self.tx_len handling) }
     {
         match self.under {
             Under::Idle => !self.spi_tx || !self.spi_rx || !self.spi_buf,
             Under::Register => self.spi_tx || self.spi_rx || !self.spi_buf,
             Under::FrameRead(x) => {
-                let going = Some(x);
                 (self.spi_buf || !self.spi_tx || !self.spi_rx)
                     || (handling
-                        || self.rx_buf.is_some()
-                        || rx_bad(going)
-                        || same_buffer(self.tx_buf, going))
+                        || LINE_ROOM <= self.rx_line.count()
+                        || x.is_receive_bad()
+                        || slot_has(self.tx_buf, x.buffer)
+                        || self.rx_line.has(x.buffer))
             }
             Under::FrameWrite(x) => {
-                let going = Some(x);
                 (self.spi_buf || !self.spi_tx || !self.spi_rx)
                     || (handling
                         || self.tx_buf.is_some()
-                        || tx_bad(going, self.tx_len)
-                        || same_buffer(self.rx_buf, going))
+                        || tx_bad(Some(x), self.tx_len)
+                        || self.rx_line.has(x.buffer))
             }
         }
     }
@@ -80,7 +84,7 @@ impl Buffers {
             InternalState::TX_WRITING_FRAME => !matches!(self.under, Under::FrameWrite(_)),
             InternalState::RX_START_READING
             | InternalState::RX_READING_FRAME_LEN_DONE
-            | InternalState::RX_ENABLING_RECEPTION => framed || self.rx_buf.is_none(),
+            | InternalState::RX_ENABLING_RECEPTION => framed || self.rx_line.is_empty(),
             InternalState::RX_READING_FRAME_LEN | InternalState::RX_READING_FRAME => {
                 !matches!(self.under, Under::FrameRead(_))
             }
@@ -107,8 +111,9 @@ impl Driver {
         !(129..=160).contains(&b.spi_buf_whole)
             || !(2..=b.spi_buf_whole).contains(&b.spi_buf_len)
             || tx_bad(b.tx_buf, b.tx_len)
-            || rx_bad(b.rx_buf)
-            || same_buffer(b.tx_buf, b.rx_buf)
+            || b.rx_line.is_bad()
+            || b.rx_line.repeats()
+            || is_in_line(b.tx_buf, b.rx_line)
             || b.going_bad(self.flags.interrupt_handling)
             || b.state_bad(self.state)
     }

@@ -1,4 +1,5 @@
 // The driver as a value: what the Rust keeps in cells, and where each buffer is.
+use crate::line::Line;
 use crate::state::InternalState;
 
 // The Rust's cells of a bool, under its names. Its `spi_busy` is here the record of the transfer under way.
@@ -61,8 +62,8 @@ pub enum Under {
     FrameWrite(Lent),
 }
 
-// The driver's record of the buffers: whether each own buffer is in its place, the client's buffers in theirs, the transfer under
-// way; the length of spi_buf and the part of it that the last frame read left; the frame length given to `transmit`, plus 2.
+// The driver's record of the buffers: whether each own buffer is in its place, the buffer to transmit, the line of receive buffers, the
+// transfer under way; the length of spi_buf and the part of it that the last frame read left; the frame length given to `transmit`, plus 2.
 #[derive(Clone, Copy)]
 pub struct Buffers {
     pub spi_tx: bool,
@@ -71,7 +72,7 @@ pub struct Buffers {
     pub spi_buf_whole: u16,
     pub spi_buf_len: u16,
     pub tx_buf: Option<Lent>,
-    pub rx_buf: Option<Lent>,
+    pub rx_line: Line,
     pub tx_len: u8,
     pub under: Under,
 }

@@ -16,6 +16,7 @@ pub mod driver;
 mod guard;
 mod interrupt;
 pub mod kernel;
+pub mod line;
 pub mod listeners;
 pub mod place;
 mod pool;

@@ -6,7 +6,7 @@ use crate::driver::Buffers;
 use crate::record::slot_has;
 
 // The places of a buffer, with the numbers that document 01's book has for them: with the client, an own buffer's own place, the transmit
-// place, the receive place, the transfer under way.
+// place, the receive place, which is the line, the transfer under way.
 #[derive(Clone, Copy, PartialEq, Eq)]
 pub enum Place {
     Client = 0,
@@ -27,7 +27,7 @@ impl From<Place> for u8 {
 
 impl Buffers {
     // The place at which the record has the buffer; at none of its own, the client has it.
-    #[tactic(auto, unfolding(crate::specs::Place::place_of))]
+    #[tactic(auto, unfolding(crate::specs::Place::place_of), using(crate::proofs::LineLaws::first_copied))]
     pub fn place_of(self, buffer: u8) -> Place
         ensures { place_no result ≡ place_of self buffer }
     {
@@ -35,7 +35,7 @@ impl Buffers {
             Place::Own
         } else if slot_has(self.tx_buf, buffer) {
             Place::Transmit
-        } else if slot_has(self.rx_buf, buffer) {
+        } else if self.rx_line.has(buffer) {
             Place::Receive
         } else if self.under.has(buffer) {
             Place::Transfer

@@ -83,11 +83,11 @@ impl Buffers {
         }
     }
 
-    // Byte 1 of the buffer in the receive place; with an empty place nobody uses it.
+    // Byte 1 of the buffer at the front of the line; with an empty line nobody uses it.
     pub(crate) fn length_byte(self, pool: &[u8]) -> u8
         ensures { result ≡ length_byte self pool.now }
     {
-        pool.get(buffer_in(self.rx_buf) as usize * 160 + 1)
+        pool.get(buffer_in(self.rx_line.front()) as usize * 160 + 1)
             .copied()
             .unwrap_or(0)
     }

@@ -83,7 +83,7 @@ impl Driver {
         )
     }
 
-    // The frame is handed to the listener; with none its buffer stays held. A waiting stop is withdrawn.
+    // The frame is handed to the listener; with none its buffer goes to the end of the line. A waiting stop is withdrawn.
     fn rx_enabling_reception(mut self, a: Arrived) -> Outcome
         requires { state_no self.state ≡ 68 }
         ensures { result ≡ own_case a self }
@@ -91,10 +91,11 @@ impl Driver {
         self.flags.receiving = false;
         self.flags.sleep_pending = false;
         if !self.clients.rx_client {
+            self.buffers.rx_line = self.buffers.rx_line.rotate();
             return self.onward_read();
         }
         let notice = self.received(a.length);
-        self.buffers.rx_buf = None;
+        self.buffers.rx_line = self.buffers.rx_line.behind();
         self.onward_read().with_actions(Actions::of([notice]))
     }
 
@@ -110,12 +111,12 @@ impl Driver {
         self.state_transition_read(RF233Register::TRX_STATUS, next)
     }
 
-    // The notice of a received frame. A second length byte of 0 or 1 gives length 0, check invalid.
+    // The notice of a received frame, in the buffer at the front of the line. A second length byte of 0 or 1 gives length 0, check invalid.
     fn received(self, length: u8) -> Action
         ensures { result ≡ received length self }
     {
         Action::Received(
-            buffer_in(self.buffers.rx_buf),
+            buffer_in(self.buffers.rx_line.front()),
             length.saturating_sub(2),
             2 <= length && self.flags.crc_valid,
         )

@@ -1,7 +1,7 @@
 // The driver's record of its buffers: what a place has, and where a buffer is. Buffers go by document 01's numbers: 0 to 15 are the
 // clients', 16, 17 and 18 the driver's own.
 ghost use Rattle.std.specs.Prelude.{◌≡◌};
-ghost use Rattle.rf233.specs.Record.{buffer_in, own_has, record_has, slot_has, under_has};
+ghost use Rattle.rf233.specs.Record.{buffer_in, own_has, receive_count, record_has, slot_has, under_has};
 
 use crate::driver::{Buffers, Lent, Under};
 
@@ -52,7 +52,13 @@ impl Buffers {
     {
         self.own_has(buffer)
             || slot_has(self.tx_buf, buffer)
-            || slot_has(self.rx_buf, buffer)
+            || self.rx_line.has(buffer)
             || self.under.has(buffer)
+    }
+    // How many receive buffers the driver has, in the line or under way.
+    pub(crate) fn receive_count(self) -> usize
+        ensures { result ≡ receive_count self }
+    {
+        self.rx_line.count() + usize::from(matches!(self.under, Under::FrameRead(_)))
     }
 }

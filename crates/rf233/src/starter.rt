@@ -90,13 +90,13 @@ impl Driver {
         )
     }
 
-    // A frame read of n bytes into the receive buffer, unless none may begin now or buffer 18 is missing. A step that asks for one finds
-    // the buffer held (`unwrap_holds` in proofs/FullPlace.antt).
+    // A frame read of n bytes into the buffer at the front of the line, unless none may begin now or buffer 18 is missing. A step that asks
+    // for one finds the buffer there (`unwrap_holds` in proofs/FullPlace.antt).
     #[tactic(auto, unfolding(crate::specs::Starter::frame_read_into, crate::specs::Choice::pick))]
     pub(crate) fn frame_read(mut self, n: u8) -> Started
         ensures { result ≡ frame_read n self }
     {
-        let Some(x) = self.buffers.rx_buf else {
+        let Some(x) = self.buffers.rx_line.front() else {
             return self.refrain();
         };
         if !(self.buffers.free_to_start() && self.buffers.spi_buf) {
@@ -105,7 +105,7 @@ impl Driver {
         let write_len = u16::from(n) + 2;
         self.buffers.spi_buf = false;
         self.buffers.spi_buf_len = write_len;
-        self.buffers.rx_buf = None;
+        self.buffers.rx_line = self.buffers.rx_line.behind();
         self.buffers.under = Under::FrameRead(x);
         Started {
             answer: StarterAnswer::Began(Transfer {
