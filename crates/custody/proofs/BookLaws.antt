@@ -4,35 +4,42 @@ use Rattle.std.proofs.Common.{◌≡◌, ℕ, zero, suc, ◌+◌, ◌*◌, ◌<�
 use Rattle.std.proofs.Common.{length, get_or, set, refl, ◌∙◌, arith, length-set, get_or-set_other, get_or-set_same, ltb-false, eq-eqb}
 use Rattle.std.proofs.Common.{ne_eqb, eqb-true}
 use borrow.Author.Tests.{eqb-false}
+use lib.Dec.{lit<}
 use Rattle.rf233.proofs.Conditions.{by_flag}
 use Rattle.custody.specs.Book.{filled}
 use Rattle.custody.specs.Claim.{only, kind_of}
 use Rattle.std.specs.Prelude.{Option, None, is_some}
-use Rattle.rf233.specs.Record.{one}
+use Rattle.rf233.specs.Described.{is_above}
+use Rattle.rf233.specs.Line.{any_of, buffers}
+use Rattle.rf233.specs.Record.{one, times}
+use Rattle.laws.proofs.Logic.{none_left, none_right}
 use Rattle.rf233.specs.declared.driver.Lent.{Lent}
 use Rattle.rf233.specs.Choice.{one_of}
-use Rattle.rf233.specs.Place.{client_place, own_place, transmit_place, receive_place, transfer_place, when}
+use Rattle.rf233.specs.Place.{client_place, own_place, transmit_place, receive_place, transfer_place, when, copies}
 
--- the places by the four tests: own, transmit, receive, under way; how many they are, and the sum of their numbers
-abbrev four : Bool → Bool → Bool → Bool → List ℕ
-four o t r w = when o own_place (when t transmit_place (when r receive_place (when w transfer_place [])))
+-- the places of a buffer: its own, transmit, n times the line, under way; how many they are, and the sum of their numbers
+abbrev four : Bool → Bool → ℕ → Bool → List ℕ
+four o t n w = when o own_place (when t transmit_place (copies n receive_place (when w transfer_place [])))
 
-abbrev pub count_by : Bool → Bool → Bool → Bool → ℕ
-count_by o t r w = one o + one t + one r + one w
+abbrev pub count_by : Bool → Bool → ℕ → Bool → ℕ
+count_by o t n w = one o + one t + n + one w
 
-abbrev pub sum_by : Bool → Bool → Bool → Bool → ℕ
-sum_by o t r w = one o * own_place + one t * transmit_place + one r * receive_place + one w * transfer_place
+abbrev pub sum_by : Bool → Bool → ℕ → Bool → ℕ
+sum_by o t n w = one o * own_place + one t * transmit_place + n * receive_place + one w * transfer_place
 
 -- where there is one at most the sum says which: it is the place's number
-pub fit : (o t r w : Bool) → count_by o t r w ≤ 1
-    → (four o t r w ≡ only (sum_by o t r w)) × (one (eqb (sum_by o t r w) transmit_place) ≡ one t)
-    × (one (eqb (sum_by o t r w) receive_place) ≡ one r)
-fit o t r w h = grind arith
+pub fit : (o t : Bool) (n : ℕ) (w : Bool) → count_by o t n w ≤ 1
+    → (four o t n w ≡ only (sum_by o t n w)) × (one (eqb (sum_by o t n w) transmit_place) ≡ one t)
+    × (one (eqb (sum_by o t n w) receive_place) ≡ n)
+fit o t zero w h = grind arith
+fit o t (suc zero) w h = grind arith
+fit o t (suc (suc n)) w h = absurd (omega arith)
 
 -- and where it is its own place or the transfer's, the sum is that place's number
-pub own_or_under : (o t r w : Bool) → 1 ≤ one o + one w → count_by o t r w ≤ 1
-    → T (one_of (own_place ∷ transfer_place ∷ []) (sum_by o t r w))
-own_or_under o t r w i h = grind arith
+pub own_or_under : (o t : Bool) (n : ℕ) (w : Bool) → 1 ≤ one o + one w → count_by o t n w ≤ 1
+    → T (one_of (own_place ∷ transfer_place ∷ []) (sum_by o t n w))
+own_or_under o t zero w i h = grind arith
+own_or_under o t (suc n) w i h = absurd (omega arith)
 
 -- that a buffer is one of two, of the three own ones, of the first two of these, as a number
 pub of_two : (m n b : ℕ) → eqb m n ≡ false → one (eqb m b || eqb n b) ≡ one (eqb m b) + one (eqb n b)
@@ -89,6 +96,15 @@ pub record More (c p : ℕ) (n s n' s' : ℕ → ℕ) : Type 0 where
   pub nowhere : n c ≡ 0 → s c ≡ 0
 
 module _ {n s n' s' : ℕ → ℕ} {l : List ℕ} {a h d : ℕ} where
+  -- where no buffer moves
+  pub none_moved : Booked n s l a h d → ((b : ℕ) → n' b ≡ n b) → ((b : ℕ) → s' b ≡ s b) → Booked n' s' l a h d
+  none_moved m u v =
+      record {
+        sized = m.sized;
+        placed = λ b i. omega (arith, m.placed b i, u b, v b);
+        counted = m.counted ∙ rw (sum_same n' n 16 (λ b i. u b));
+      }
+
   -- THE LAW OF TWO BUFFERS: w goes from p to p' and r from q to q', and each buffer is at as many places as before
   pub two_moved : Booked n s l a h d → (w r p q p' q' : ℕ) → w < 19 → r < 19 → eqb w r ≡ false
       → get_or l w client_place ≡ p → get_or l r client_place ≡ q → ((b : ℕ) → n' b ≡ n b)
@@ -134,7 +150,7 @@ module _ {n s n' s' : ℕ → ℕ} {l : List ℕ} {a h d : ℕ} where
         },
       )
 
--- how many buffers are at a place: no more than there are; none where none is there
+-- how many buffers are at a place: no more than there are; none where none is there; as many as a list names, each below n
 one_most : (v : Bool) → one v ≤ 1
 one_most v = grind arith
 
@@ -147,6 +163,31 @@ pub filled_none : (p : ℕ) (l : List ℕ) (n : ℕ) → ((b : ℕ) → b < n �
 unfolding filled
 filled_none p l zero h = refl
 filled_none p l (suc n) h = rw (filled_none p l n (λ b i. h b (omega arith)), h n (omega arith))
+
+filled_sum : (p : ℕ) (l : List ℕ) (n : ℕ) → filled p l n ≡ sum (λ b. one (eqb (get_or l b client_place) p)) n
+unfolding filled sum
+filled_sum p l zero = refl
+filled_sum p l (suc n) = rw (filled_sum p l n)
+
+sum_none : (n : ℕ) → sum (λ b. 0) n ≡ 0
+unfolding sum
+sum_none zero = refl
+sum_none (suc n) = omega (arith, sum_none n)
+
+sum_times : (l : List Lent) (n : ℕ) → 15 < n → any_of is_above l ≡ false → sum (λ b. times b (buffers l)) n ≡ length l
+sum_times [] n h e = sum_none n
+sum_times (x ∷ l) n h e =
+    let low = ltb-false 15 x.buffer (none_left (is_above x) (any_of is_above l) e) in
+    omega (
+      arith,
+      sum_more (λ b. times b (buffers (x ∷ l))) (λ b. times b (buffers l)) x.buffer n (omega arith) (λ b. omega arith),
+      sum_times l n h (none_right (is_above x) (any_of is_above l) e),
+    )
+
+pub filled_line : (l : List ℕ) (x : List Lent) → any_of is_above x ≡ false
+    → ((b : ℕ) → b < 19 → one (eqb (get_or l b client_place) receive_place) ≡ times b (buffers x)) → filled receive_place l 19 ≡ length x
+filled_line l x e f =
+    filled_sum receive_place l 19 ∙ (sum_same _ (λ b. times b (buffers x)) 19 f ∙ sum_times x 19 (lit< tt) e)
 
 -- what is the same for both directions of a register transfer is told by the kind without its direction
 pub as_kind : {A : Type 0} (f : ℕ → A) (n : ℕ) → f 2 ≡ f 1 → f n ≡ f (kind_of n)

@@ -1,6 +1,6 @@
 -- Each call of demand 3 keeps the invariant of Custody.antt, refused or not. Assumes nothing.
 use Rattle.std.proofs.Common.{rules}
-use Rattle.std.proofs.Common.{◌≡◌, ℕ, ◌+◌, Bool, true, false, not, ◌||◌, T, eqb, ltb, leb, List, [], ℤ, sym, refl, subst, arith}
+use Rattle.std.proofs.Common.{◌≡◌, ℕ, ◌+◌, ◌≤◌, Bool, true, false, not, ◌||◌, T, eqb, ltb, leb, List, [], ℤ, sym, refl, ◌∙◌, subst, arith, length}
 use Rattle.std.proofs.Common.{ltb-false, le-leb, leb-false}
 use borrow.Author.Tests.{not-false}
 use Rattle.rf233.specs.Action.{actions}
@@ -9,15 +9,17 @@ use Rattle.rf233.specs.Completion.{completed}
 use Rattle.rf233.specs.Config.{begin_start, start_call, begin_stop, stop_call, begin_commit, commit_call, reset_call, set_power}
 use Rattle.rf233.specs.Config.{set_channel}
 use Rattle.rf233.specs.Data.{handle_bad, tx_busy, begin_transmit, transmit_call, receive_buffer_call}
-use Rattle.rf233.specs.Described.{tx_length_bad, rx_length_bad}
-use Rattle.rf233.specs.Driver.{flag, flagged, with_state, with_buffers, with_tx, with_rx, with_tx_len}
+use Rattle.rf233.specs.Described.{tx_length_bad, receive_length_bad}
+use Rattle.rf233.specs.Driver.{flag, flagged, with_state, with_buffers, with_tx, with_line, with_tx_len}
+use Rattle.rf233.specs.Line.{line_room, line, append}
 use Rattle.rf233.specs.Driver.Flag.{radio_on, transmitting, config_pending, sleep_pending, wake_pending, receiving}
 use Rattle.rf233.specs.Guard.{Called}
 use Rattle.rf233.specs.Interrupt.{handle_interrupt}
 use Rattle.rf233.specs.Kernel.{fired_call, completing, completion_call}
 use Rattle.rf233.specs.Record as rec
 use Rattle.std.specs.Prelude.{Some, is_some}
-use Rattle.rf233.specs.Record.{lent, record_has}
+use Rattle.rf233.specs.Record.{lent, record_has, receive_count}
+use Rattle.rf233.specs.declared.driver.Lent.{Lent}
 use Rattle.rf233.specs.declared.transfer.TransferKind.TheVariants as transfer
 use Rattle.rf233.specs.State.{state_no}
 use Rattle.rf233.specs.Step.{quiet}
@@ -53,8 +55,9 @@ use Rattle.rf233.proofs.ChoiceLaws.{branch, either}
 use Rattle.rf233.proofs.CommitLaws.{commit_waits}
 use Rattle.rf233.proofs.Conditions.{by_flag}
 use Rattle.rf233.proofs.EveryStep.{commit_by}
-use Rattle.rf233.proofs.Facts.{kind, frame_of, of}
-use Rattle.rf233.proofs.Fit.{fit, join_same, join_32, join_30, join_33, unsent, tx_fits, rx_fits}
+use Rattle.rf233.proofs.Facts.{kind, frame_of, of, holding}
+use Rattle.rf233.proofs.Fit.{fit, join_same, join_32, join_30, join_33, unsent, tx_fits, in_line}
+use Rattle.rf233.proofs.LineLaws.{listed_is, some_is, some_append, length_append, any_append}
 use Rattle.custody.proofs.BookLaws.{empty_is}
 use Rattle.custody.proofs.Custody.{Inv, After, Lengths}
 use Rattle.custody.proofs.Events.{completed_keeps, others, asks_any, fires_any}
@@ -79,9 +82,6 @@ turned f k n d e v =
 -- the place that a frame transfer's buffer came from
 sent_is : (u : Under) → is_some (rec.tx_under_way u) ≡ eqb (frame_of (kind u)) 2
 sent_is u = grind arith
-
-received_is : (u : Under) → is_some (rec.rx_under_way u) ≡ eqb (frame_of (kind u)) 1
-received_is u = grind arith
 
 module _ (k : Page) (d : Driver) (v : Inv k d) where
   abbrev Yields : Fed → Called → Type 0
@@ -203,14 +203,24 @@ module _ (k : Page) (d : Driver) (v : Inv k d) where
       let none = empty_is (rec.tx_under_way d.buffers.under) e in
       search rules
 
-  lengths_received : (b l : ℕ) → T (not (ltb 160 l)) → T (not (ltb l 129))
-      → Lengths (with_rx (Some (lent b l)) d.buffers)
-  lengths_received b l h s =
+  lengths_received : (b l : ℕ) → T (not (ltb 160 l)) → T (not (ltb l 129)) → length (append (line d.buffers) (lent b l)) ≤ line_room
+      → Lengths (with_line (append (line d.buffers) (lent b l)) d.buffers)
+  lengths_received b l h s few =
       let g = v.lengths in
       let most = ltb-false 160 l (is_false (ltb 160 l) h) in
       let least = ltb-false l 129 (is_false (ltb l 129) s) in
-      let rx : rx_length_bad (Some (lent b l)) ≡ false = rw (le-leb 129 l (omega arith), le-leb l 160 (omega arith)) in
-      search rules
+      let m = line d.buffers in
+      let one : receive_length_bad (lent b l) ≡ false = rw (le-leb 129 l (omega arith), le-leb l 160 (omega arith)) in
+      record {
+        whole = g.whole;
+        present = g.present;
+        tx = g.tx;
+        tx_under = g.tx_under;
+        rx =
+            rw (listed_is (append m (lent b l)) few)
+            (any_append receive_length_bad m (lent b l) ∙ rw (g.rx, one) refl);
+        rx_under = g.rx_under;
+      }
 
   done_transmitting : (b l n : ℕ) → IsDone (begin_transmit d b l n)
   unfolding begin_transmit
@@ -258,23 +268,28 @@ module _ (k : Page) (d : Driver) (v : Inv k d) where
       (λ m. branch (Yields f) _ _ _ (λ z. turned f k 8 d refl v)
       (λ r. took f k (begin_transmit d b l n) (done_transmitting b l n) (transmitting_keeps b l n h y s m r))))))))
 
+  -- a receive buffer is taken in at the end of the line
+  room_for : (x : Lent) → leb line_room (receive_count d.buffers) ≡ false → length (append (line d.buffers) x) ≤ line_room
+  room_for x e = omega (arith, length_append (line d.buffers) x, leb-false line_room (receive_count d.buffers) e)
+
+  in_line_is : (x : Lent) → of (with_buffers (with_line (append (line d.buffers) x) d.buffers) d) ≡ holding (of d).tx true (of d)
+  in_line_is x = rw (some_is (append (line d.buffers) x) ∙ some_append (line d.buffers) x) refl
+
   receive_keeps : (b l : ℕ) → Entered (lends_receive b) k (receive_buffer_call d b l)
   unfolding receive_buffer_call
   receive_keeps b l =
       let f = lends_receive b in
-      let u = d.buffers.under in
-      let t = is_some d.buffers.rx_buf in
       branch (Entered f k) _ _ _ (λ y. turned f k 7 d refl v)
       (λ h. branch (Entered f k) _ _ _ (λ y. turned f k 9 d refl v)
       (λ s. branch (Entered f k) _ _ _ (λ y. turned f k 10 d refl v)
       (λ y. branch (Entered f k) _ _ _ (λ z. turned f k 8 d refl v)
       (λ r. let low = ltb-false 15 b (is_false (ltb 15 b) (nor_left (ltb 15 b) (ltb 160 l) h)) in
+      let few = is_false (leb line_room (receive_count d.buffers)) y in
+      let fits = room_for (lent b l) few in
       took f k _ refl (record {
-        match =
-            lends_rx d.buffers k v.match (lent b l) (omega arith) (is_false t (nor_left t _ y))
-            (is_false (is_some (rec.rx_under_way u)) (nor_right t _ y)) (is_false (record_has d.buffers b) r);
-        fitted = rx_fits.gives (of d) v.fitted tt (subst (λ x. T (not (t || x))) (received_is u) y);
-        lengths = lengths_received b l (nor_right (ltb 15 b) (ltb 160 l) h) s;
+        match = lends_rx d.buffers k v.match (lent b l) (omega arith) few (is_false (record_has d.buffers b) r);
+        fitted = subst (λ c. T (fit c)) (sym (in_line_is (lent b l))) (in_line.gives (of d) v.fitted tt tt);
+        lengths = lengths_received b l (nor_right (ltb 15 b) (ltb 160 l) h) s fits;
       })))))
 
   -- every call

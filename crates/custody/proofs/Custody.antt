@@ -4,15 +4,16 @@ use Rattle.std.proofs.Common.{rules}
 use Rattle.std.proofs.Common.{◌≡◌, ℕ, ◌+◌, ◌≤◌, true, false, ◌&&◌, T, eqb, leb, List, [], ◌∷◌, sym, refl, ap, ◌∙◌, subst, arith, leb→le}
 use Rattle.std.proofs.Common.{le-leb, leb-true}
 use Rattle.rf233_const.specs.Command as command
-use Rattle.rf233.specs.Case.{accessed, handed, without_tx, without_rx}
+use Rattle.rf233.specs.Case.{accessed, handed, without_tx, without_front, rotated}
 use Rattle.rf233.specs.Choice.{pick, within}
-use Rattle.rf233.specs.Described.{tx_length_bad, rx_length_bad}
+use Rattle.rf233.specs.Described.{tx_length_bad, rx_length_bad, receive_length_bad}
+use Rattle.rf233.specs.Line.{line, front, behind, some, any_of}
 use Rattle.rf233.specs.Driver.{with_spi_buf_len}
 use Rattle.std.specs.Prelude.{Some, is_some}
 use Rattle.rf233.specs.Record.{tx_under_way, rx_under_way}
 use Rattle.rf233.specs.Rows.{Access, Shown}
 use Rattle.rf233.specs.Rows.Access.{none, reads, writes, reads_length, reads_frame, writes_frame}
-use Rattle.rf233.specs.Rows.Shown.{plain, power_changed, config_done, sent_back, dropped_back, received_back}
+use Rattle.rf233.specs.Rows.Shown.{plain, power_changed, config_done, sent_back, dropped_back, received_back, received_kept}
 use Rattle.rf233.specs.Starter as starter
 use Rattle.rf233.specs.Starter.{buffers_away, register_transfer, frame_read, frame_read_into, frame_write, frame_write_from}
 use Rattle.rf233.specs.Step.{step_of}
@@ -29,12 +30,13 @@ use Rattle.rf233.specs.declared.driver.Under.TheVariants.{Idle, Register, FrameR
 use Rattle.rf233.specs.declared.starter.Started.{Started}
 use Rattle.custody.specs.Book.{Page, write_no, read_no, begun, noted_all}
 use Rattle.custody.specs.Claim.{kind_of}
-use Rattle.laws.proofs.Logic.{both_left, left, right}
+use Rattle.laws.proofs.Logic.{both_left, left, right, none_left, none_right}
 use Rattle.rf233.proofs.Facts.{of, under, holding}
 use Rattle.rf233.proofs.Facts.Kind.{access, reading}
-use Rattle.rf233.proofs.Fit.{fit, ok_access}
+use Rattle.rf233.proofs.Fit.{fit, ok_access, fuller_fits}
+use Rattle.rf233.proofs.LineLaws.{listed_behind, listed_rotate, any_behind, any_rotate, front_behind}
 use Rattle.rf233.proofs.OwnBuffers.{idle_is}
-use Rattle.custody.proofs.Actions.{full}
+use Rattle.custody.proofs.Actions.{full, full_line}
 use Rattle.custody.proofs.Match.{Match, Own, begins}
 
 -- every length of the record is within its bounds
@@ -43,7 +45,7 @@ pub record Lengths (r : Buffers) : Type 0 where
   pub present : within 2 r.spi_buf_whole r.spi_buf_len ≡ true
   pub tx : tx_length_bad r.tx_buf r.tx_len ≡ false
   pub tx_under : tx_length_bad (tx_under_way r.under) r.tx_len ≡ false
-  pub rx : rx_length_bad r.rx_buf ≡ false
+  pub rx : any_of receive_length_bad (line r) ≡ false
   pub rx_under : rx_length_bad (rx_under_way r.under) ≡ false
 
 -- the invariant
@@ -62,38 +64,62 @@ After k o = Inv (with_transfer o (noted_all o.reply.actions.items k)) o.driver
 
 -- ---- buffers handed back
 
--- what an emptied place leaves, the actions of a row leave
-pub handed_keeps : (P : Buffers → Type 0) → ((b : Buffers) → P b → P (without_tx b)) → ((b : Buffers) → P b → P (without_rx b))
-    → (sh : List Shown) (b : Buffers) → P b → P (handed sh b)
-handed_keeps P t r [] b p = p
-handed_keeps P t r (plain x ∷ more) b p = handed_keeps P t r more b p
-handed_keeps P t r (power_changed ∷ more) b p = handed_keeps P t r more b p
-handed_keeps P t r (config_done ∷ more) b p = handed_keeps P t r more b p
-handed_keeps P t r (sent_back ∷ more) b p = handed_keeps P t r more (without_tx b) (t b p)
-handed_keeps P t r (dropped_back ∷ more) b p = handed_keeps P t r more (without_tx b) (t b p)
-handed_keeps P t r (received_back ∷ more) b p = handed_keeps P t r more (without_rx b) (r b p)
+-- what an emptied transmit place, a front that is away and one at the end of the line leave, the actions of a row leave
+pub handed_keeps : (P : Buffers → Type 0) → ((b : Buffers) → P b → P (without_tx b)) → ((b : Buffers) → P b → P (without_front b))
+    → ((b : Buffers) → P b → P (rotated b)) → (sh : List Shown) (b : Buffers) → P b → P (handed sh b)
+handed_keeps P t r q [] b p = p
+handed_keeps P t r q (plain x ∷ more) b p = handed_keeps P t r q more b p
+handed_keeps P t r q (power_changed ∷ more) b p = handed_keeps P t r q more b p
+handed_keeps P t r q (config_done ∷ more) b p = handed_keeps P t r q more b p
+handed_keeps P t r q (sent_back ∷ more) b p = handed_keeps P t r q more (without_tx b) (t b p)
+handed_keeps P t r q (dropped_back ∷ more) b p = handed_keeps P t r q more (without_tx b) (t b p)
+handed_keeps P t r q (received_back ∷ more) b p = handed_keeps P t r q more (without_front b) (r b p)
+handed_keeps P t r q (received_kept ∷ more) b p = handed_keeps P t r q more (rotated b) (q b p)
 
 pub handed_lengths : (sh : List Shown) (b : Buffers) → Lengths b → Lengths (handed sh b)
 handed_lengths =
     handed_keeps Lengths
     (λ b g. search rules)
-    (λ b g. search rules)
+    (λ b g. record {
+      whole = g.whole;
+      present = g.present;
+      tx = g.tx;
+      tx_under = g.tx_under;
+      rx = rw (listed_behind b.rx_line) (any_behind receive_length_bad (line b) g.rx);
+      rx_under = g.rx_under;
+    })
+    (λ b g. record {
+      whole = g.whole;
+      present = g.present;
+      tx = g.tx;
+      tx_under = g.tx_under;
+      rx = rw (listed_rotate b.rx_line) (any_rotate receive_length_bad (line b) ∙ g.rx);
+      rx_under = g.rx_under;
+    })
 
 pub handed_free : (sh : List Shown) (b : Buffers) → free_to_start b ≡ true → free_to_start (handed sh b) ≡ true
-handed_free = handed_keeps (λ b. free_to_start b ≡ true) (λ b e. e) (λ b e. e)
+handed_free = handed_keeps (λ b. free_to_start b ≡ true) (λ b e. e) (λ b e. e) (λ b e. e)
 
 -- ---- the lengths once a transfer has begun
 
 pub lengths_register : (b : Buffers) → Lengths b → Lengths (buffers_away Register b)
 lengths_register b g = search rules
 
-lengths_read : (x : Lent) (n : ℕ) (b : Buffers) → b.rx_buf ≡ Some x → n ≤ 127 → Lengths b
+lengths_read : (x : Lent) (n : ℕ) (b : Buffers) → front (line b) ≡ Some x → n ≤ 127 → Lengths b
     → Lengths (with_spi_buf_len (n + 2) (buffers_away (FrameRead x) b))
 lengths_read x n b e h g =
     let w = b.spi_buf_whole in
     let least = leb-true 129 w (both_left (leb 129 w) _ g.whole) in
-    let present : within 2 w (n + 2) ≡ true = rw (le-leb 2 (n + 2) (omega arith), le-leb (n + 2) w (omega arith)) in
-    search rules
+    let l = behind (line b) in
+    let all = rw (front_behind (line b) x e) at g.rx in
+    record {
+      whole = g.whole;
+      present = rw (le-leb 2 (n + 2) (omega arith), le-leb (n + 2) w (omega arith));
+      tx = g.tx;
+      tx_under = refl;
+      rx = rw (listed_behind b.rx_line) (none_right (receive_length_bad x) (any_of receive_length_bad l) all);
+      rx_under = none_left (receive_length_bad x) (any_of receive_length_bad l) all;
+    }
 
 lengths_write : (x : Lent) (b : Buffers) → b.tx_buf ≡ Some x → Lengths b → Lengths (buffers_away (FrameWrite x) b)
 lengths_write x b e g = search rules
@@ -133,14 +159,14 @@ module _ (k : Page) (e : Driver) (m : Match e.buffers k) (g : Lengths e.buffers)
         subst Begun (sym (register_begins n x y))
         (record { match = rw z (begins e.buffers k m Register (kind_value n) tt q i); fitted = o; lengths = lengths_register e.buffers g })
 
-    reading_keeps : (n : ℕ) → n ≤ 127 → T (is_some e.buffers.rx_buf && fit (holding (of e).tx false (under reading (of e))))
+    reading_keeps : (n : ℕ) → n ≤ 127 → T (some (line e.buffers) && fit (holding (of e).tx false (under reading (of e))))
         → Begun (frame_read n e)
     reading_keeps n h o =
-        full e.buffers.rx_buf (left (is_some e.buffers.rx_buf) _ o)
+        full_line (line e.buffers) (left (some (line e.buffers)) _ o)
         (λ x q. subst Begun (sym (ap (λ s. frame_read_into s n e) q ∙ read_begins n x))
         (record {
           match = begins e.buffers k m (FrameRead x) 3 q refl i;
-          fitted = right (is_some e.buffers.rx_buf) _ o;
+          fitted = fuller_fits (record { more = _; same = refl }) (right (some (line e.buffers)) _ o);
           lengths = lengths_read x n e.buffers q h g;
         }))
 

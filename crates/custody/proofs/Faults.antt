@@ -1,6 +1,6 @@
 -- Each way to a fault of the book, on a smallest run: before the last call there is none, with it there is one; and a run without a fault.
 -- Computed from the definition of the book, in the order of document 01. Assumes nothing.
-use Rattle.std.proofs.Common.{◌≡◌, ℕ, Bool, true, false, not, ◌&&◌, List, [], ◌∷◌, refl}
+use Rattle.std.proofs.Common.{◌≡◌, ℕ, Bool, true, false, not, ◌&&◌, List, [], ◌∷◌, ◌++◌, refl}
 use Rattle.rf233.specs.Action.{actions, padded}
 use Rattle.std.specs.Prelude.{Option, None, Some}
 use Rattle.rf233.specs.Transfer.{transfer_of}
@@ -47,6 +47,10 @@ starts k w r = call other Done (actions []) (moves k w r)
 abbrev ends : Fact
 ends = call completes Done (actions []) None
 
+-- four buffers to receive into
+abbrev four : List Fact
+four = receives 3 ∷ receives 4 ∷ receives 5 ∷ receives 6 ∷ []
+
 -- the book after these calls
 abbrev after : List Fact → Page → Page
 after [] k = k
@@ -65,10 +69,10 @@ pub faults :
     × (faulty (sends 3 ∷ []) (receives 3) ≡ true)
     × (faulty [] (sends 16) ≡ true)
     × (faulty [] (sends 19) ≡ true)
-    -- a second buffer in the transmit or the receive place, also while the first is under way
+    -- a second buffer in the transmit place or a fifth in the receive place, also while one of them is under way
     × (faulty (sends 3 ∷ []) (sends 4) ≡ true)
-    × (faulty (receives 3 ∷ []) (receives 4) ≡ true)
-    × (faulty (receives 3 ∷ starts FrameRead 18 3 ∷ []) (receives 4) ≡ true)
+    × (faulty four (receives 7) ≡ true)
+    × (faulty (four ++ (starts FrameRead 18 4 ∷ [])) (receives 7) ≡ true)
     × (faulty (sends 3 ∷ starts FrameWrite 3 18 ∷ []) (sends 4) ≡ true)
     -- a completion with no transfer under way
     × (faulty [] ends ≡ true)
@@ -87,8 +91,10 @@ pub faults :
 unfolding entered filled
 faults = (refl, refl, refl, refl, refl, refl, refl, refl, refl, refl, refl, refl, refl, refl, refl, refl, refl, refl, refl, refl)
 
--- a start and its completion; buffers lent to both places, one of them under way
+-- a start and its completion; buffers lent to both places, one of them under way; four to receive into, of which one is read into and
+-- handed back, and then another is lent
 pub faultless : (after (starts RegisterRead 16 17 ∷ ends ∷ []) new_page ≡ new_page)
     × ((after (sends 3 ∷ starts FrameWrite 3 18 ∷ receives 4 ∷ ends ∷ []) new_page).fault ≡ false)
+    × ((after (four ++ (starts FrameRead 18 4 ∷ ends ∷ shows (Received 4 10 true) ∷ receives 7 ∷ [])) new_page).fault ≡ false)
 unfolding entered filled
-faultless = (refl, refl)
+faultless = (refl, refl, refl)

@@ -37,8 +37,8 @@ use Rattle.rf233.proofs.ChoiceLaws.{branch}
 use Rattle.rf233.proofs.EveryStep.{Kept, Ends, every_access}
 use Rattle.rf233.proofs.Facts.{kind, is_none, of, under, settled, settled_is, prepared_is}
 use Rattle.rf233.proofs.Facts.Kind.{access}
-use Rattle.rf233.proofs.Fit.{fit, ok_shown, ok_access, ok_row, row_fits, to_45, to_60, to_handling, to_62, to_33, to_29, to_59, to_28}
-use Rattle.rf233.proofs.Fit.{to_42}
+use Rattle.rf233.proofs.Fit.{fit, ok_shown, ok_row, row_fits, to_45, to_60, to_handling, to_62, to_33, to_29, to_59, to_28}
+use Rattle.rf233.proofs.Fit.{to_42, fuller_access}
 use Rattle.rf233.proofs.OwnBuffers.{idle_is}
 use Rattle.rf233.proofs.Trees.{row_of}
 use Rattle.custody.proofs.Actions.{noted_padded, fewer, hands}
@@ -111,13 +111,12 @@ module _ (k : Page) where
       let there : T (ok_shown sh (of e)) =
       subst (λ z. T (ok_shown sh z)) (sym (settled_is a.result l m d)) (right (leb (length sh) 6) p few) in
       let given =
-      hands a e sh e.buffers k (record { tx_of = λ y. refl; rx_of = λ y. refl }) there
+      hands a e sh e.buffers k (of e) (record { tx_of = λ y. (y, refl); rx_of = λ y. (y, refl) }) there
       (subst (λ b. Match b k) (sym q) v.inv.match) in
       let kept =
       access_keeps (noted_all (shown a e sh) k) c given (handed_lengths sh e.buffers (subst Lengths (sym q) v.inv.lengths))
       (handed_free sh e.buffers (ap free_to_start q ∙ v.free)) y a x
-      (subst (λ z. T (ok_access x (within 11 127 a.result) z)) (sym (prepared_is a.result l m sh d))
-      (right (leb (length sh) 6 && p) _ o)) in
+      (fuller_access x (within 11 127 a.result) (prepared_is a.result l m sh d) (right (leb (length sh) 6 && p) _ o)) in
       let z = accessed x a y c in
       subst (λ n. Inv (with_transfer z n) z.driver)
       (sym (ap (λ (w : Actions). noted_all w.items k) (every_access (λ (o : Outcome). o.reply.actions ≡ y) a y c (λ e t. refl) x)

@@ -8,7 +8,7 @@ use Rattle.rf233.specs.Case.{shown}
 use Rattle.rf233.specs.Receive.{received}
 use Rattle.rf233.specs.Record.{buffer_in}
 use Rattle.rf233.specs.Rows.{Shown}
-use Rattle.rf233.specs.Rows.Shown.{plain, power_changed, config_done, sent_back, dropped_back, received_back}
+use Rattle.rf233.specs.Rows.Shown.{plain, power_changed, config_done, sent_back, dropped_back, received_back, received_kept}
 use Rattle.rf233.specs.Transmit.{send_done}
 use Rattle.rf233.specs.declared.action.Action.{Action}
 use Rattle.rf233.specs.declared.action.Action.TheVariants.{Power, ConfigDone, Dropped}
@@ -29,6 +29,7 @@ plainly f (config_done ∷ more) = plainly f more
 plainly f (sent_back ∷ more) = plainly f more
 plainly f (dropped_back ∷ more) = plainly f more
 plainly f (received_back ∷ more) = plainly f more
+plainly f (received_kept ∷ more) = plainly f more
 
 -- and so does whatever notice a row makes
 pub record Notices (f : Action → Bool) (a : Arrived) (d : Driver) : Type 0 where
@@ -50,3 +51,4 @@ module _ (f : Action → Bool) (a : Arrived) (d : Driver) (n : Notices f a d) wh
   all_pass (sent_back ∷ s) t = pair (f _) _ n.sent (all_pass s t)
   all_pass (dropped_back ∷ s) t = pair (f _) _ n.dropped (all_pass s t)
   all_pass (received_back ∷ s) t = pair (f _) _ n.received (all_pass s t)
+  all_pass (received_kept ∷ s) t = all_pass s t

@@ -11,16 +11,14 @@ use Rattle.rf233.specs.declared.driver.Driver.{Driver}
 use Rattle.laws.proofs.Logic.{left, right, is_true, is_false}
 use Rattle.custody.proofs.Custody.{Inv, Lengths}
 use Rattle.rf233.proofs.Facts.{kind, frame_of, frame_no_lem, of}
-use Rattle.rf233.proofs.Fit.{fit, rx_empty, tx_empty, fit_frame, fit_places}
-use Rattle.custody.proofs.Match.{once, somewhere}
+use Rattle.rf233.proofs.Fit.{fit, tx_empty, fit_frame, fit_places}
+use Rattle.custody.proofs.Match.{once, somewhere, spacious}
 
--- no buffer is held beside another of its kind under way
+-- no transmit buffer is held beside another under way
 pub besides_none : (d : Driver) → T (fit (of d)) → held_besides d.buffers ≡ false
 besides_none d o =
     let t = is_some d.buffers.tx_buf in
-    let r = is_some d.buffers.rx_buf in
     let x = tx_empty.gives (of d) o tt in
-    let y = rx_empty.gives (of d) o tt in
     grind arith
 
 lengths_good : (b : Buffers) → Lengths b → length_bad b ≡ false
@@ -42,6 +40,7 @@ sound k d v =
       v.match.below,
       lengths_good d.buffers v.lengths,
       besides_none d v.fitted,
+      spacious d.buffers k v.match,
       frame_no_lem u,
       is_true e (left e (not h) f),
       is_false h (right e (not h) f),

@@ -12,6 +12,7 @@ use Rattle.rf233.specs.Completion.{completed}
 use Rattle.rf233.specs.Driver.{assigning}
 use Rattle.rf233.specs.Interrupt.{handle_interrupt}
 use Rattle.rf233.specs.Rows.{Access, Row}
+use Rattle.rf233.specs.Line.{line, front}
 use Rattle.rf233.specs.Rows.Access.{none, reads, writes, reads_length, reads_frame, writes_frame}
 use Rattle.rf233.specs.Rows.Row.{does}
 use Rattle.rf233.specs.Starter.{register_transfer, frame_read_into, frame_write_from, begun}
@@ -121,8 +122,8 @@ access_yields : (x : Access) (a : Arrived) (l : List Action) (d : Driver) → le
 access_yields none a l d h t = with_actions_lem l h t _ _ (omega arith)
 access_yields (reads r) a l d h t = with_actions_lem l h t _ _ (register_small transfer.RegisterRead _ _ d)
 access_yields (writes r v) a l d h t = with_actions_lem l h t _ _ (register_small transfer.RegisterWrite _ _ d)
-access_yields reads_length a l d h t = with_actions_lem l h t _ _ (read_small d.buffers.rx_buf 0 d)
-access_yields reads_frame a l d h t = with_actions_lem l h t _ _ (read_small d.buffers.rx_buf a.result d)
+access_yields reads_length a l d h t = with_actions_lem l h t _ _ (read_small (front (line d.buffers)) 0 d)
+access_yields reads_frame a l d h t = with_actions_lem l h t _ _ (read_small (front (line d.buffers)) a.result d)
 access_yields writes_frame a l d h t = with_actions_lem l h t _ _ (write_small d.buffers.tx_buf d)
 
 row_yields : (r : Row) (a : Arrived) (d : Driver) → T (row_six r) → Yields (perform r a d)

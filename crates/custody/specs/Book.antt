@@ -3,6 +3,7 @@
 use Rattle.std.specs.Prelude.{ℕ, zero, suc, ◌+◌, Bool, true, false, cond, not, ◌&&◌, ◌||◌, List, [], ◌∷◌, ◌++◌, replicate, ◌==◌, nat_le}
 use Rattle.std.specs.Prelude.{nat_lt, slice_index_or, slice_set, Option, None, Some}
 use Rattle.rf233.specs.Answer.{answer_no}
+use Rattle.rf233.specs.Line.{line_room}
 use Rattle.rf233.specs.Record.{one}
 use Rattle.rf233.specs.Place.{client_place, own_place, transmit_place, receive_place, transfer_place}
 use Rattle.rf233.specs.Transfer.{kind_no}
@@ -62,9 +63,9 @@ filled p l (suc n) = filled p l n + one (slice_index_or l n client_place == p)
 abbrev pub occupied : ℕ → Page → ℕ
 occupied p k = filled p k.places 19 + one (write_from k.kind == p || read_from k.kind == p)
 
--- how many buffers a place takes from the client: transmit 1, receive 1, any other none
+-- how many buffers a place takes from the client: transmit 1, receive 4 (request 2026-07), any other none
 abbrev pub room : ℕ → ℕ
-room p = cond (p == transmit_place) 1 (cond (p == receive_place) 1 0)
+room p = cond (p == transmit_place) 1 (cond (p == receive_place) line_room 0)
 
 -- the place takes no more
 abbrev pub full : ℕ → Page → Bool

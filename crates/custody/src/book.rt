@@ -31,6 +31,7 @@ ghost use Rattle.rf233.specs.Transfer.{kind_no, kind_value};
 
 use rf233::action::{Action, Actions};
 use rf233::answer::{Answer, Reply};
+use rf233::line::LINE_ROOM;
 use rf233::place::Place;
 use rf233::transfer::{Transfer, TransferKind};
 
@@ -90,12 +91,13 @@ fn read_from(kind: TransferKind) -> Place
     }
 }
 
-// How many buffers a place takes from the client: the transmit place one, the receive place one.
+// How many buffers a place takes from the client: the transmit place one, the receive place four.
 fn room_of(place: Place) -> usize
     ensures { result ≡ room (place_no place) }
 {
     match place {
-        Place::Transmit | Place::Receive => 1,
+        Place::Transmit => 1,
+        Place::Receive => LINE_ROOM,
         _ => 0,
     }
 }

@@ -1,8 +1,9 @@
 -- The line of receive buffers: the code's form of it and the list are the same, as long as there are no more than four; what the four
 -- operations leave; how often it names a buffer. Assumes nothing.
 use Prim.Native.Nat.{ℕ, zero, suc, ◌+◌, ◌≤◌}
-use mathlib.Core.Path.{◌≡◌, refl, sym}
-use mathlib.Core.Bool.{Bool, true, false, ◌||◌, or_assoc}
+use mathlib.Core.Path.{◌≡◌, refl, sym, ◌∙◌}
+use mathlib.Core.Bool.{Bool, true, false, ◌||◌, or-false, or_assoc}
+use Rattle.std.specs.Prelude.{Some}
 use mathlib.Core.List.{List, [], ◌∷◌}
 use native.Mathlib.Omega.{arith}
 use lib.Dec.{eqb, ltb, lit≤}
@@ -10,6 +11,7 @@ use lib.ListN.{length}
 use borrow.Author.Tests.{ltb-true}
 use Rattle.rf233.specs.Line.{line_room, listed, line_of, front, behind, append, rotate, some, any_of, buffers}
 use Rattle.rf233.specs.Place.{copies, first_place}
+use Rattle.laws.proofs.Logic.{none_right, or_left_comm}
 use Rattle.rf233.specs.Record.{one, times}
 use Rattle.rf233.specs.declared.driver.Lent.{Lent}
 use Rattle.rf233.specs.declared.line.Line.{Line}
@@ -87,3 +89,28 @@ first_copied (suc n) p l e = refl
 pub any_append : (t : Lent → Bool) (l : List Lent) (x : Lent) → any_of t (append l x) ≡ any_of t l || (t x || false)
 any_append t [] x = refl
 any_append t (y ∷ l) x = rw (any_append t l x) (sym (or_assoc (t y) (any_of t l) (t x || false)))
+
+pub any_rotate : (t : Lent → Bool) (l : List Lent) → any_of t (rotate l) ≡ any_of t l
+any_rotate t [] = refl
+any_rotate t (x ∷ l) = any_append t l x ∙ or_left_comm (any_of t l) (t x) false ∙ rw or-false refl
+
+pub any_behind : (t : Lent → Bool) (l : List Lent) → any_of t l ≡ false → any_of t (behind l) ≡ false
+any_behind t [] e = refl
+any_behind t (x ∷ l) e = none_right (t x) (any_of t l) e
+
+-- ---- a line with its front away, or at its end, and the oldest with what is behind it
+
+pub listed_behind : (l : Line) → listed (line_of (behind (listed l))) ≡ behind (listed l)
+listed_behind l = listed_is (behind (listed l)) (omega (arith, length_behind (listed l), listed_most l))
+
+pub listed_rotate : (l : Line) → listed (line_of (rotate (listed l))) ≡ rotate (listed l)
+listed_rotate l = listed_is (rotate (listed l)) (omega (arith, length_rotate (listed l), listed_most l))
+
+pub front_behind : (l : List Lent) (x : Lent) → front l ≡ Some x → l ≡ x ∷ behind l
+front_behind [] x e = cc
+front_behind (y ∷ l) x e = let z : y ≡ x = cc in rw z refl
+
+-- after a lending there is one
+pub some_append : (l : List Lent) (x : Lent) → some (append l x) ≡ true
+some_append [] x = refl
+some_append (y ∷ l) x = refl
