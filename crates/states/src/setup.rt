@@ -3,6 +3,7 @@
 use crate::situation::{Call, Situation};
 use crate::state::Group;
 use rf233::driver::{Buffers, Clients, Driver, Flags, Lent, Settings, Under};
+use rf233::line::Line;
 use rf233::state::InternalState;
 
 // The same settings in every situation: those that the table's first text names.
@@ -52,7 +53,7 @@ fn takes_rx(state: InternalState) -> bool {
 pub fn is_possible(state: InternalState, situation: &Situation) -> bool {
     let reads = situation.flags.interrupt_handling
         || (situation.call == Call::Firing && !situation.in_transfer);
-    !(frame_transfer(state).is_some() && reads) && !(takes_rx(state) && situation.no_rx_buf)
+    !(frame_transfer(state).is_some() && reads) && !(takes_rx(state) && situation.empty_line)
 }
 
 // From READY on the radio is on, but for the states of sleep; for a firing or a call it is on in every state.
@@ -65,7 +66,7 @@ fn is_on(state: InternalState, situation: &Situation) -> bool {
 fn flags(state: InternalState, situation: &Situation) -> Flags {
     let set = situation.flags;
     let completes = situation.call == Call::Completion;
-    let transmits = Group::of(state) == Group::Transmit && !situation.no_rx_buf;
+    let transmits = Group::of(state) == Group::Transmit && !situation.empty_line;
     let commits = Group::of(state) == Group::Commit;
     Flags {
         radio_on: is_on(state, situation),
@@ -110,11 +111,15 @@ fn tx_buf(state: InternalState, situation: &Situation) -> Option<Lent> {
 }
 
 // Buffer 1 unless the situation is without it and the state does not take it; in the two states of a frame read the transfer has it.
-fn rx_buf(state: InternalState, situation: &Situation) -> Option<Lent> {
-    let there = situation.call == Call::Completion && !situation.no_rx_buf;
+fn rx_line(state: InternalState, situation: &Situation) -> Line {
+    let there = situation.call == Call::Completion && !situation.empty_line;
     let lent = matches!(frame_transfer(state), Some(Under::FrameRead(_)));
     let held = (takes_rx(state) || there) && !lent;
-    held.then_some(RX_BUFFER)
+    if held {
+        Line::One(RX_BUFFER)
+    } else {
+        Line::Empty
+    }
 }
 
 // The record of the buffers: those of the transfer under way are out of their places.
@@ -128,7 +133,7 @@ fn buffers(state: InternalState, situation: &Situation) -> Buffers {
         spi_buf_whole: 129,
         spi_buf_len: 129,
         tx_buf: tx_buf(state, situation),
-        rx_buf: rx_buf(state, situation),
+        rx_line: rx_line(state, situation),
         tx_len: 22,
         under,
     }

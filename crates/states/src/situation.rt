@@ -53,7 +53,7 @@ enum Difference {
     PowerClientPending,
     RadioOff,
     NoListener,
-    NoRxBuf,
+    EmptyLine,
     InTransfer,
 }
 
@@ -71,7 +71,7 @@ pub struct Situation {
     pub flags: Flags,
     pub radio_off: bool,
     pub no_listener: bool,
-    pub no_rx_buf: bool,
+    pub empty_line: bool,
 }
 
 // No flag is set. A constant cannot call `Flags::default`.
@@ -100,7 +100,7 @@ pub const PLAIN: Situation = Situation {
     flags: NO_FLAGS,
     radio_off: false,
     no_listener: false,
-    no_rx_buf: false,
+    empty_line: false,
 };
 
 // A read of IRQ_STATUS that shows none of the interrupts that a step looks for.
@@ -182,7 +182,7 @@ impl Situation {
             Difference::PowerClientPending => self.flags.power_client_pending = true,
             Difference::RadioOff => self.radio_off = true,
             Difference::NoListener => self.no_listener = true,
-            Difference::NoRxBuf => self.no_rx_buf = true,
+            Difference::EmptyLine => self.empty_line = true,
             Difference::InTransfer => self.in_transfer = true,
         }
         self
@@ -271,12 +271,12 @@ pub fn interrupts() -> [Situation; 10] {
         Situation::interrupt("IRQ_2_RX_START", start),
         Situation::interrupt("IRQ_3_TRX_END", end),
         Situation::interrupt("IRQ_3_TRX_END+receiving", end).with(Difference::Receiving),
-        Situation::interrupt("IRQ_3_TRX_END+receiving+no_rx_buf", end)
+        Situation::interrupt("IRQ_3_TRX_END+receiving+empty_line", end)
             .with(Difference::Receiving)
-            .with(Difference::NoRxBuf),
-        Situation::interrupt("IRQ_3_TRX_END+receiving+no_rx_buf+transmitting", end)
+            .with(Difference::EmptyLine),
+        Situation::interrupt("IRQ_3_TRX_END+receiving+empty_line+transmitting", end)
             .with(Difference::Receiving)
-            .with(Difference::NoRxBuf)
+            .with(Difference::EmptyLine)
             .with(Difference::Transmitting),
         Situation::interrupt("IRQ_0_PLL_LOCK+interrupt_pending", lock).with(
             Difference::InterruptPending,

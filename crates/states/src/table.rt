@@ -22,7 +22,7 @@ const ABOUT_EVENTS: &str =
     "INTERRUPTS AND CALLS: what each does in every other state, where that is one thing, and the states where it \
     does another.\nIRQ_ is a completion of the read of IRQ_STATUS that shows that interrupt; where no line says more, a state does as if \
     none were shown. In 34, 63\nand 65 a frame transfer is under way, so that IRQ_STATUS is not being read there; 62, 64 and 68 have the \
-    receive buffer, so that no_rx_buf is\nnot said of them. Firings and calls come while no register transfer is under way, or \
+    receive buffer, so that empty_line is\nnot said of them. Firings and calls come while no register transfer is under way, or \
     in_transfer; the radio is on, no other flag is set, and a\nbuffer is held only where the state takes one.";
 
 // The names of the columns.
