@@ -89,10 +89,10 @@ in_clauses =
 
 abbrev in_places : Tests
 in_places =
-    any_of (test 0) (any_of (test 1) (any_of (any_of (test 2) (test 3)) (any_of (any_of (test 4) (test 5)) (any_of (test 7) (any_of (test 6)
+    any_of (test 0) (any_of (test 1) (any_of (any_of (test 2) (test 3)) (any_of (any_of (any_of (test 4) (test 5)) (any_of (test 7) (test 6)))
     (any_of (any_of (test 8)
     (any_of (test 9) (any_of (test 10) (any_of (test 11) (any_of (test 12) (any_of (test 13) (any_of (test 14) (any_of (test 15) (test 16)))))))))
-    (any_of (test 17) (test 18))))))))
+    (any_of (test 17) (test 18))))))
 
 module _ (d : Driver) where
   abbrev r : Buffers

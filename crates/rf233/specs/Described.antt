@@ -120,6 +120,10 @@ repeats (c ∷ l) = ltb 0 (times c l) || repeats l
 abbrev pub receive_bad : Lent → Bool
 receive_bad x = is_above x || receive_length_bad x
 
+-- of the line: a buffer that is no client's, or with a length out of bounds, or twice in it, or to transmit too
+abbrev pub line_bad : List Lent → Option Lent → Bool
+line_bad l tx = any_of receive_bad l || (repeats (buffers l) || meets (named_in tx) (buffers l))
+
 -- an own buffer in its own place while the transfer has it, or out of it while it does not
 abbrev pub own_wrong : Under → Buffers → Bool
 own_wrong Idle r = not r.spi_tx || (not r.spi_rx || not r.spi_buf)
@@ -144,7 +148,5 @@ by_place d =
     let r = d.buffers in
     let n = state_no d.state in
     not (within 129 160 r.spi_buf_whole) || (not (within 2 r.spi_buf_whole r.spi_buf_len)
-    || ((slot_above r.tx_buf || tx_length_bad r.tx_buf r.tx_len) || (any_of receive_bad (line r) || (repeats (buffers (line r))
-    || (meets (named_in r.tx_buf) (buffers (line r))
-    || ((own_wrong r.under r || frame_bad r.under r.tx_buf (line r) r.tx_len d.flags.interrupt_handling)
-    || (not (eqb (frame_no r.under) (state_frame n)) || buffer_missing r n)))))))
+    || ((slot_above r.tx_buf || tx_length_bad r.tx_buf r.tx_len) || (line_bad (line r) r.tx_buf || ((own_wrong r.under r || frame_bad r.under r.tx_buf (line r) r.tx_len d.flags.interrupt_handling)
+    || (not (eqb (frame_no r.under) (state_frame n)) || buffer_missing r n)))))

@@ -6,27 +6,19 @@ ghost use Rattle.rf233.specs.Described.{
   described,
   frame_bad,
   frame_no,
-  meets,
-  named_in,
+  line_bad,
   own_wrong,
   receive_bad,
   slot_above,
   tx_length_bad,
 };
-ghost use Rattle.rf233.specs.Line.{buffers, line, listed};
+ghost use Rattle.rf233.specs.Line.{line, listed};
 ghost use Rattle.rf233.specs.State.{state_frame, state_no};
 
 use crate::driver::{Buffers, Driver, Lent, Under};
 use crate::line::{LINE_ROOM, Line};
 use crate::record::slot_has;
 use crate::state::InternalState;
-
-// The place names a buffer that is in the line too.
-fn is_in_line(slot: Option<Lent>, line: Line) -> bool
-    ensures { result ≡ meets (named_in slot) (buffers (listed line)) }
-{
-    slot.is_some_and(|x| line.has(x.buffer))
-}
 
 // A transmit buffer, held or under way, that is no client's, or with a length or an n out of bounds. It and the next are two functions,
 // since their bounds are two rules of document 01.
@@ -46,7 +38,29 @@ impl Lent {
     }
 }
 
+impl Line {
+    // What is wrong with a line of several; apart, as in `line`.
+    #[cold]
+    #[inline(never)]
+    fn several_bad(self, slot: Option<Lent>) -> bool
+        ensures { result ≡ line_bad (listed self) slot }
+    {
+        self.is_bad() || self.repeats() || slot.is_some_and(|x| self.has(x.buffer))
+    }
+}
+
 impl Buffers {
+    // What is wrong with the line: a buffer in it that is no client's, or with a length out of bounds, or twice in it, or to transmit too.
+    fn line_bad(self) -> bool
+        ensures { result ≡ line_bad (line self) self.tx_buf }
+    {
+        match self.rx_line {
+            Line::Empty => false,
+            Line::One(a) => a.is_receive_bad() || slot_has(self.tx_buf, a.buffer),
+            l => l.several_bad(self.tx_buf),
+        }
+    }
+
     // What is wrong with the transfer under way: an own buffer is in its own place exactly while the transfer does not have it, and a
     // frame transfer's client's buffer is asked like a held one.
     fn going_bad(self, handling: bool) -> bool
@@ -111,9 +125,7 @@ impl Driver {
         !(129..=160).contains(&b.spi_buf_whole)
             || !(2..=b.spi_buf_whole).contains(&b.spi_buf_len)
             || tx_bad(b.tx_buf, b.tx_len)
-            || b.rx_line.is_bad()
-            || b.rx_line.repeats()
-            || is_in_line(b.tx_buf, b.rx_line)
+            || b.line_bad()
             || b.going_bad(self.flags.interrupt_handling)
             || b.state_bad(self.state)
     }
