@@ -17,10 +17,22 @@ pub enum Place {
     UnderWay = 4,
 }
 
+impl Place {
+    /// How many buffers the transmit place holds, and by request 2026-07 the receive place;
+    /// one that a transfer took from there is counted.
+    fn holds(self) -> usize {
+        match self {
+            Place::Transmit => 1,
+            Place::Receive => 4,
+            Place::Client | Place::Own | Place::UnderWay => BUFFERS,
+        }
+    }
+}
+
 /// The place of each buffer.
 pub type Places = [Place; BUFFERS];
 
-#[derive(Clone, Debug)]
+#[derive(Clone, Debug, PartialEq, Eq)]
 pub struct Book {
     pub places: Places,
     /// The transfer under way: its kind, what it writes from and what it reads into.
@@ -80,10 +92,10 @@ impl Book {
         }
     }
 
-    /// A client's place takes one buffer, so a second one is a fault.
+    /// A buffer goes from the client to a client's place; more than it holds is a fault.
     fn brought(&mut self, buffer: u64, place: Place) -> bool {
         self.accepted += 1;
-        let full = self.occupied(place) > 0;
+        let full = self.occupied(place) >= place.holds();
         let buffer = usize::try_from(buffer).unwrap_or(BUFFERS);
         full | (buffer >= CLIENT_BUFFERS || self.moved(buffer, Place::Client, place))
     }
@@ -176,6 +188,13 @@ mod tests {
         fail: false,
     };
 
+    fn receive(buffer: u64) -> Call {
+        Call::SetReceiveBuffer {
+            buffer,
+            length: 160,
+        }
+    }
+
     fn transfer(kind: Kind, write_buffer: usize, read_buffer: usize) -> Transfer {
         Transfer {
             kind,
@@ -247,17 +266,42 @@ mod tests {
     }
 
     #[test]
-    fn a_place_takes_one_buffer() {
-        let receive = |buffer| Call::SetReceiveBuffer {
-            buffer,
+    fn the_transmit_place_holds_one_buffer() {
+        let second = Call::Transmit {
+            buffer: 5,
             length: 160,
+            n: 10,
         };
-        let read = transfer(Kind::FrameRead, 18, 3);
+        let write = transfer(Kind::FrameWrite, 4, 18);
         let mut book = Book::default();
-        assert!(!book.enter(&receive(3), Answer::Done, &[], None));
-        assert!(book.clone().enter(&receive(5), Answer::Done, &[], None));
-        assert!(!book.clone().enter(&TRANSMIT, Answer::Done, &[], None));
+        assert!(!book.enter(&TRANSMIT, Answer::Done, &[], None));
+        assert!(book.clone().enter(&second, Answer::Done, &[], None));
+        assert!(!book.enter(&Call::Start, Answer::Done, &[], Some(&write)));
+        assert!(book.clone().enter(&second, Answer::Done, &[], None));
+        assert!(!book.enter(&receive(5), Answer::Done, &[], None));
+    }
+
+    #[test]
+    fn the_receive_place_holds_four_buffers() {
+        let read = transfer(Kind::FrameRead, 18, 3);
+        let given = |buffer| Action::Received {
+            buffer,
+            length: 9,
+            crc: true,
+        };
+        let done = Call::ReadWriteDone(vec![0, 0]);
+        let mut book = Book::default();
+        for buffer in [3, 5, 6] {
+            assert!(!book.enter(&receive(buffer), Answer::Done, &[], None));
+        }
         assert!(!book.enter(&Call::Start, Answer::Done, &[], Some(&read)));
-        assert!(book.enter(&receive(5), Answer::Done, &[], None));
+        // The one under way counts: a fourth fits, a fifth is a fault.
+        assert!(!book.enter(&receive(7), Answer::Done, &[], None));
+        assert!(book.clone().enter(&receive(8), Answer::Done, &[], None));
+        // The book keeps no order: any of the four may be handed back.
+        assert!(!book.enter(&done, Answer::Done, &[given(6)], None));
+        assert!(!book.enter(&receive(8), Answer::Done, &[], None));
+        assert!(book.enter(&receive(9), Answer::Done, &[], None));
+        assert_eq!((book.accepted, book.handed), (6, 1));
     }
 }

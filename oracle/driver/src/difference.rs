@@ -1,19 +1,19 @@
-//! The Rust's answer to a script, and where another's differs from it, line by line.
+//! The judge's answer to a script, and where another's differs from it, line by line.
 
-use std::fmt;
+use std::fmt::{self, Write};
 
 use crate::command::Ran;
+use crate::performer::Performer;
 use crate::run::{End, run};
-use crate::session::Session;
 
 /// Lines shown of each output at most.
 const SHOWN: usize = 40;
 
-/// All that the Rust yields for a script, if the script stays inside the domain.
-pub fn judged(session: &mut Session, script: &str) -> Option<Vec<u8>> {
-    session.begin();
+/// All that a performer yields for a script, if it performs it to its end.
+pub fn judged(performer: &mut impl Performer, script: &str) -> Option<Vec<u8>> {
+    performer.begin();
     let mut output = Vec::new();
-    let end = run(session, script.as_bytes(), &mut output);
+    let end = run(performer, script.as_bytes(), &mut output);
     (end.ok()? == End::Complete).then_some(output)
 }
 
@@ -43,6 +43,19 @@ impl Difference {
         })
     }
 
+    /// Both outputs from the first line that differs, and how the command ended. `judge`:
+    /// what the judge is called.
+    pub fn shown(&self, judge: &str) -> String {
+        let mut text = String::new();
+        for (who, lines) in [(judge, &self.judge), ("the command", &self.command)] {
+            written(&mut text, who, self.line, lines).expect("memory does not fail");
+        }
+        if let Some(status) = &self.status {
+            text += &format!("the command ended with {status}\n");
+        }
+        text
+    }
+
     /// The first line that differs, as both have it, and how the command ended.
     pub fn first(&self) -> String {
         let mut said = String::new();
@@ -60,25 +73,14 @@ impl Difference {
     }
 }
 
-impl fmt::Display for Difference {
-    fn fmt(&self, f: &mut fmt::Formatter) -> fmt::Result {
-        shown(f, "the Rust", self.line, &self.judge)?;
-        shown(f, "the command", self.line, &self.command)?;
-        match &self.status {
-            Some(status) => writeln!(f, "the command ended with {status}"),
-            None => Ok(()),
-        }
-    }
-}
-
-fn shown(f: &mut fmt::Formatter, who: &str, line: usize, lines: &[String]) -> fmt::Result {
-    writeln!(f, "{who}, from line {line} of the output:")?;
+fn written(text: &mut String, who: &str, line: usize, lines: &[String]) -> fmt::Result {
+    writeln!(text, "{who}, from line {line} of the output:")?;
     for line in lines.iter().take(SHOWN) {
-        writeln!(f, "{line}")?;
+        writeln!(text, "{line}")?;
     }
     match lines.len().saturating_sub(SHOWN) {
         0 => Ok(()),
-        more => writeln!(f, "and {more} lines more"),
+        more => writeln!(text, "and {more} lines more"),
     }
 }
 

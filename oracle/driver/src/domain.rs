@@ -34,16 +34,24 @@ fn reason(view: &View, call: &Call) -> Option<String> {
         let name = answer.name();
         return Some(format!("{} {name} is an added refusal", answer as u8));
     }
-    let Call::Transmit { n, .. } = call else {
-        return None;
+    let reason = match call {
+        Call::Transmit { .. } if view.kind() == Some(Kind::FrameWrite) => {
+            "transmit while a frame write is under way"
+        }
+        Call::Transmit { n, .. } if n.checked_add(ADDED).is_none() => {
+            "the transmit length plus 4 does not fit 64 bits"
+        }
+        Call::SetReceiveBuffer { .. } if receives(view) => {
+            "a receive buffer is lent while the driver has one"
+        }
+        _ => return None,
     };
-    if view.kind() == Some(Kind::FrameWrite) {
-        return Some("transmit while a frame write is under way".into());
-    }
-    if n.checked_add(ADDED).is_none() {
-        return Some("the transmit length plus 4 does not fit 64 bits".into());
-    }
-    None
+    Some(reason.into())
+}
+
+/// Whether a receive buffer is held or under way.
+fn receives(view: &View) -> bool {
+    view.image.cells.rx_buf.is_some() || view.kind() == Some(Kind::FrameRead)
 }
 
 /// Refusals that the Rust has not (marked + in document 01).
@@ -56,7 +64,8 @@ fn added(call: &Call, answer: Answer) -> bool {
     }
 }
 
-/// The answer by document 01's rules and their order.
+/// The answer by document 01's rules and their order, with request 2026-07's for a receive
+/// buffer.
 pub fn answer(view: &View, call: &Call) -> Answer {
     let guarded = matches!(
         call,
@@ -108,14 +117,13 @@ fn transmit(view: &View, buffer: u64, length: u64, n: u64) -> Answer {
     }
 }
 
+/// By request 2026-07 the order is 7, 9, 10, 8, and 10 is for a driver that has four: this
+/// one never has more than one inside the domain, nor more than two past it.
 fn receive_buffer(view: &View, buffer: u64, length: u64) -> Answer {
-    let held = view.image.cells.rx_buf.is_some() || view.kind() == Some(Kind::FrameRead);
     if !exists(buffer, length) {
         Answer::Handle
     } else if length < SHORTEST_RECEIVE {
         Answer::Short
-    } else if held {
-        Answer::Full
     } else {
         refused_if(view.has(buffer), Answer::Held)
     }

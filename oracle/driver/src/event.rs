@@ -169,7 +169,7 @@ impl Other {
             (Other::Transmit, 0..=28 | 30..=32) => Some("the radio is off"),
             (Other::Transmit, 33..=44) => Some("a transmit buffer is held"),
             (Other::ReceiveBuffer, 63..=65 | 67 | 68) => {
-                Some("a receive buffer is held: FULL is an added refusal")
+                Some("a receive buffer is held: the domain has no second one lent")
             }
             _ => None,
         }

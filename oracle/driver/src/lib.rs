@@ -1,6 +1,7 @@
 //! The Rust driver of the AT86RF233, with the repairs of request 2026-02, over stand-ins
 //! for the kernel, made to answer scripts of calls, with a generator of scripts and a
-//! comparison built on it; and a second implementation of the trace that calls leave.
+//! comparison built on it; a second implementation of the trace that calls leave; and a
+//! model of the driver that goes on where the Rust may not be compared.
 
 pub mod action;
 pub mod answer;
@@ -9,17 +10,20 @@ mod bench;
 pub mod book;
 mod calls;
 pub mod command;
+pub mod comparison;
 pub mod coverage;
 pub mod damage;
 pub mod difference;
-mod domain;
+pub mod domain;
 mod event;
 pub mod generator;
 pub mod line;
+pub mod model;
 pub mod options;
 pub mod outcome;
 mod panics;
 mod parse;
+pub mod performer;
 pub mod progress;
 pub mod random;
 pub mod run;

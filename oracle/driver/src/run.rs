@@ -6,7 +6,7 @@ use std::io::{self, BufRead, Read, Write};
 use crate::line::{Call, Line};
 use crate::outcome::Outcome;
 use crate::parse::{LONGEST, parse};
-use crate::session::{Session, Stop};
+use crate::performer::{Performer, Stop};
 
 /// How a run ended.
 #[derive(Clone, Debug, PartialEq, Eq)]
@@ -73,11 +73,17 @@ impl fmt::Display for Halt {
     }
 }
 
-/// Runs the script on a session that is at a script's beginning.
-pub fn run(session: &mut Session, input: impl BufRead, output: &mut impl Write) -> io::Result<End> {
-    let halt = perform(session, input, |_, _, outcome| write!(output, "{outcome}"))?;
+/// Runs the script on a performer that is at a script's beginning.
+pub fn run(
+    performer: &mut impl Performer,
+    input: impl BufRead,
+    output: &mut impl Write,
+) -> io::Result<End> {
+    let halt = perform(performer, input, |_, _, outcome| {
+        write!(output, "{outcome}")
+    })?;
     let Some(halt) = halt else {
-        write!(output, "{}", session.ending())?;
+        write!(output, "{}", performer.ending())?;
         return Ok(End::Complete);
     };
     let end = halt.end();
@@ -88,11 +94,11 @@ pub fn run(session: &mut Session, input: impl BufRead, output: &mut impl Write) 
 }
 
 /// Performs a script's lines up to its end or to one that halts the run. `each` is shown
-/// every call, what it yielded, and the session after it.
-pub fn perform(
-    session: &mut Session,
+/// every call, what it yielded, and the performer after it.
+pub fn perform<P: Performer>(
+    performer: &mut P,
     mut input: impl BufRead,
-    mut each: impl FnMut(&Session, &Call, &Outcome) -> io::Result<()>,
+    mut each: impl FnMut(&P, &Call, &Outcome) -> io::Result<()>,
 ) -> io::Result<Option<Halt>> {
     let mut text = Vec::with_capacity(LONGEST + 2);
     let mut number = 0u64;
@@ -102,12 +108,12 @@ pub fn perform(
         let Some(line) = parse(&text) else {
             return halt(number, Why::Malformed);
         };
-        let outcome = match session.perform(&line) {
+        let outcome = match performer.perform(&line) {
             Ok(outcome) => outcome,
             Err(stop) => return halt(number, Why::Stopped(stop)),
         };
         if let (Line::Call(call), Some(outcome)) = (&line, &outcome) {
-            each(session, call, outcome)?;
+            each(performer, call, outcome)?;
         }
     }
     Ok(None)

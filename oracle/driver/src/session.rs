@@ -10,6 +10,7 @@ use crate::domain::{self, Edge};
 use crate::line::{Call, Line};
 use crate::outcome::{Ending, Outcome};
 use crate::panics::caught;
+use crate::performer::{Performer, Stop};
 use crate::rf233::probe::Driver;
 use crate::view::View;
 
@@ -22,17 +23,6 @@ const FIRST_CHANNEL: u8 = 26;
 const TX_RETURN_TO_RX: u8 = 43;
 const RX_READING_FRAME_FCS_DONE: u8 = 67;
 const RX_ENABLING_RECEPTION: u8 = 68;
-
-/// Why a line was not performed.
-#[derive(Clone, Debug, PartialEq, Eq)]
-pub enum Stop {
-    /// The line leaves the domain of comparison.
-    Outside(String),
-    /// Past the domain: the Rust panics.
-    Panicked(String),
-    /// Inside the domain the Rust, document 01 and the book do not agree.
-    Disagreement(String),
-}
 
 /// What `mark` keeps.
 struct Mark {
@@ -71,14 +61,6 @@ impl Session {
         }
     }
 
-    /// Goes to the beginning of another script.
-    pub fn begin(&mut self) {
-        self.mark = None;
-        self.calls = 0;
-        self.left = false;
-        self.back();
-    }
-
     pub fn view(&self) -> &View {
         &self.view
     }
@@ -103,32 +85,6 @@ impl Session {
             image.state(),
             RX_READING_FRAME_FCS_DONE | RX_ENABLING_RECEPTION
         ) && length < 2
-    }
-
-    /// The lines at the end of a run.
-    pub fn ending(&self) -> Ending<'_> {
-        Ending {
-            book: &self.book,
-            with: self.view.with_driver(),
-            record: self.view.record(),
-        }
-    }
-
-    /// Performs one line; a call yields an outcome.
-    pub fn perform(&mut self, line: &Line) -> Result<Option<Outcome>, Stop> {
-        match line {
-            Line::Passed(_) => {}
-            Line::Call(call) => return self.call(call).map(Some),
-            Line::Pool { at, bytes } => {
-                let edge = domain::pool_edge(&self.view, *at, bytes.len());
-                self.pass(edge)?;
-                self.bench.area.write(*at, bytes);
-            }
-            Line::PoolLength(length) => self.view.pool_length = *length,
-            Line::Mark => self.keep(),
-            Line::Back => self.back(),
-        }
-        Ok(None)
     }
 
     /// Stops at the domain's edge, or takes note that it is passed.
@@ -281,6 +237,43 @@ impl Session {
                 self.book = Book::default();
             }
         }
+    }
+}
+
+impl Performer for Session {
+    fn begin(&mut self) {
+        self.mark = None;
+        self.calls = 0;
+        self.left = false;
+        self.back();
+    }
+
+    fn perform(&mut self, line: &Line) -> Result<Option<Outcome>, Stop> {
+        match line {
+            Line::Passed(_) => {}
+            Line::Call(call) => return self.call(call).map(Some),
+            Line::Pool { at, bytes } => {
+                let edge = domain::pool_edge(&self.view, *at, bytes.len());
+                self.pass(edge)?;
+                self.bench.area.write(*at, bytes);
+            }
+            Line::PoolLength(length) => self.view.pool_length = *length,
+            Line::Mark => self.keep(),
+            Line::Back => self.back(),
+        }
+        Ok(None)
+    }
+
+    fn ending(&self) -> Ending<'_> {
+        Ending {
+            book: &self.book,
+            with: self.view.with_driver(),
+            record: self.view.record(),
+        }
+    }
+
+    fn flags(&self) -> [bool; 8] {
+        self.view.trace_flags()
     }
 }
 

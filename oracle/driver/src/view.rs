@@ -78,6 +78,21 @@ impl View {
         self.under_way.as_ref().map(|transfer| transfer.kind)
     }
 
+    /// The flags of a trace record, bit 0 first.
+    pub fn trace_flags(&self) -> [bool; 8] {
+        let flags = &self.image.flags;
+        [
+            flags.radio_on,
+            flags.transmitting,
+            flags.receiving,
+            self.under_way.is_some(),
+            flags.interrupt_handling,
+            flags.interrupt_pending,
+            flags.config_pending,
+            flags.sleep_pending,
+        ]
+    }
+
     /// Where the driver's own record has each buffer.
     pub fn record(&self) -> Places {
         let mut places = [Place::Client; BUFFERS];

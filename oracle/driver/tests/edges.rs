@@ -40,7 +40,15 @@ fn added_refusals_leave_the_domain() {
         ("set_receive_buffer 1 128", "9 SHORT"),
         (
             "set_receive_buffer 1 129\nset_receive_buffer 1 129",
-            "10 FULL",
+            "8 HELD",
+        ),
+        (
+            "set_receive_buffer 1 129\nset_receive_buffer 2 128",
+            "9 SHORT",
+        ),
+        (
+            "set_receive_buffer 1 129\nset_receive_buffer 16 129",
+            "7 HANDLE",
         ),
         ("transmit 1 160 1\nset_receive_buffer 1 129", "8 HELD"),
         ("read_write_done 0 0", "11 IDLE"),
@@ -89,6 +97,17 @@ fn no_byte_that_the_driver_has_is_written_from_outside() {
             answered(&format!("{lent}pool {at} 0\n"), false).0,
             End::Complete
         );
+    }
+}
+
+#[test]
+fn a_second_receive_buffer_leaves_the_domain() {
+    let ready = ready();
+    let reading = "set_receive_buffer 2 160\nfired\nread_write_done 0 12\n";
+    for script in ["set_receive_buffer 2 160\n", reading] {
+        let script = format!("{ready}{script}set_receive_buffer 3 129\n");
+        let said = reason(&script);
+        assert_eq!(said, "a receive buffer is lent while the driver has one");
     }
 }
 

@@ -3,6 +3,7 @@
 
 use oracle::generator::{Wish, script};
 use oracle::line::{Call, Line, text};
+use oracle::performer::Performer;
 use oracle::run::{End, run};
 use oracle::session::Session;
 

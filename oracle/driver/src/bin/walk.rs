@@ -180,7 +180,7 @@ fn report(
     keep(arguments.keep.as_deref(), &smallest)?;
     let (whole, count) = (batch.lines.len(), smallest.len());
     println!("a difference; the script, cut down from {whole} lines to {count}:");
-    print!("{}{difference}", text(&smallest));
+    print!("{}{}", text(&smallest), difference.shown("the Rust"));
     Ok(())
 }
 

@@ -3,6 +3,7 @@
 
 use crate::generator::{Wish, script};
 use crate::line::Line;
+use crate::performer::Performer;
 use crate::random::Random;
 use crate::session::Session;
 use crate::trace::block::sealed;
@@ -92,7 +93,7 @@ fn records(session: &mut Session, seed: u64, all: &mut Vec<Record>) -> Result<()
         let outcome = session.perform(&line);
         let outcome = outcome.map_err(|stop| format!("seed {seed}: {stop:?}"))?;
         if let (Line::Call(call), Some(outcome)) = (&line, &outcome) {
-            all.extend(record(call, outcome, session.view()));
+            all.extend(record(call, outcome, session.flags()));
         }
     }
     Ok(())

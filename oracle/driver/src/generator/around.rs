@@ -1,6 +1,7 @@
 //! What stands around the calls of a script: remarks, marks, the pool, new drivers.
 
 use super::Generator;
+use super::plain;
 use crate::area::{AREA, BUFFER, CLIENT_BUFFERS, POOL};
 use crate::domain;
 use crate::line::{Call, Client, Line};
@@ -9,21 +10,13 @@ impl Generator<'_> {
     /// One of the lines around the calls.
     pub fn around(&mut self) -> Line {
         match self.random.within(0, 99) {
-            0..15 => self.remark(),
+            0..15 => plain::remark(&mut self.random),
             15..30 => Line::Mark,
             30..42 => Line::Back,
             42..65 => self.new_driver(),
             65..85 => self.free_bytes(),
             _ => self.other_pool_length(),
         }
-    }
-
-    /// A line that is passed over.
-    pub fn remark(&mut self) -> Line {
-        Line::Passed(match self.random.percent(50) {
-            true => String::new(),
-            false => format!("# remark {}", self.random.within(0, 999)),
-        })
     }
 
     pub fn new_driver(&mut self) -> Line {
@@ -49,7 +42,7 @@ impl Generator<'_> {
             }
         }
         while self.random.percent(50) {
-            let setting = self.setting();
+            let setting = plain::setting(&mut self.random);
             self.planned.push_back(Line::Call(setting));
         }
     }
@@ -68,15 +61,15 @@ impl Generator<'_> {
                 return Line::Pool { at, bytes };
             }
         }
-        self.remark()
+        plain::remark(&mut self.random)
     }
 
     /// Another length for a while: only calls that take no pool come before it ends.
     fn other_pool_length(&mut self) -> Line {
         for _ in 0..self.random.within(0, 3) {
             let call = match self.random.within(0, 2) {
-                0 => self.query(),
-                1 => self.setting(),
+                0 => plain::query(&mut self.random),
+                1 => plain::setting(&mut self.random),
                 _ => Call::Reset { configured: false },
             };
             self.planned.push_back(Line::Call(call));

@@ -3,14 +3,17 @@
 
 mod around;
 mod arrived;
+pub mod beyond;
+mod plain;
 mod proposals;
 
 use std::collections::VecDeque;
 
 use crate::line::Line;
 use crate::outcome::Outcome;
+use crate::performer::{Performer, Stop};
 use crate::random::Random;
-use crate::session::{Session, Stop};
+use crate::session::Session;
 use crate::view::View;
 use proposals::Proposal;
 

@@ -1,9 +1,10 @@
 //! The calls that the generator proposes, each only where it stays inside the domain.
 
 use super::Generator;
-use crate::area::{BUFFER, CLIENT_BUFFERS};
+use super::plain;
+use crate::area::BUFFER;
 use crate::domain;
-use crate::line::{Call, Client, Line, Query};
+use crate::line::{Call, Line};
 
 /// A sort of call.
 #[derive(Clone, Copy)]
@@ -36,7 +37,7 @@ impl Generator<'_> {
             }
             return Line::Call(call);
         }
-        Line::Call(self.query())
+        Line::Call(plain::query(&mut self.random))
     }
 
     /// Whether the call stays inside the domain, and inside the wish.
@@ -54,19 +55,15 @@ impl Generator<'_> {
             Proposal::Send => self.send(),
             Proposal::RefusedSend => self.refused_send(),
             Proposal::LendReceiveBuffer => Call::SetReceiveBuffer {
-                buffer: self.client_buffer(),
+                buffer: plain::client_buffer(&mut self.random),
                 length: self.random.within(129, 160),
             },
             Proposal::Reset => Call::Reset { configured: true },
             Proposal::RefusedReset => Call::Reset { configured: false },
-            Proposal::Setting => self.setting(),
-            Proposal::Listener => self.listener(),
-            Proposal::Query => self.query(),
+            Proposal::Setting => plain::setting(&mut self.random),
+            Proposal::Listener => plain::listener(&mut self.random),
+            Proposal::Query => plain::query(&mut self.random),
         }
-    }
-
-    fn client_buffer(&mut self) -> u64 {
-        self.random.within(0, CLIENT_BUFFERS as u64 - 1)
     }
 
     /// A transmit that fits: the length plus 4 stays below the buffer's.
@@ -80,7 +77,7 @@ impl Generator<'_> {
             false => self.random.within(n + 5, BUFFER as u64),
         };
         Call::Transmit {
-            buffer: self.client_buffer(),
+            buffer: plain::client_buffer(&mut self.random),
             length,
             n,
         }
@@ -96,7 +93,7 @@ impl Generator<'_> {
             _ => self.random.within(0, 125),
         };
         Call::Transmit {
-            buffer: self.client_buffer(),
+            buffer: plain::client_buffer(&mut self.random),
             length,
             n,
         }
@@ -112,40 +109,7 @@ impl Generator<'_> {
         self.planned.push_back(Line::Call(call));
         match domain::pool_edge(self.view(), at, bytes.len()) {
             None => Line::Pool { at, bytes },
-            Some(_) => self.remark(),
+            Some(_) => plain::remark(&mut self.random),
         }
-    }
-
-    pub fn setting(&mut self) -> Call {
-        match self.random.within(0, 4) {
-            0 => Call::SetAddress(self.random.next() as u16),
-            1 => Call::SetPan(self.random.next() as u16),
-            2 => {
-                let number = self.random.next();
-                Call::SetAddressLong(number.to_le_bytes())
-            }
-            3 => self.power(),
-            _ => Call::SetChannel(self.random.within(11, 26) as u8),
-        }
-    }
-
-    fn power(&mut self) -> Call {
-        let corners = [4, 5, -17, -18, -5, -13, 127, -128];
-        Call::SetTxPower(match self.random.within(0, 3) {
-            0 => self.random.pick(&corners),
-            1 => self.random.byte() as i8,
-            _ => self.random.within(0, 21) as i8 - 17,
-        })
-    }
-
-    fn listener(&mut self) -> Call {
-        Call::SetClient {
-            client: self.random.pick(&Client::ALL),
-            present: self.random.percent(75),
-        }
-    }
-
-    pub fn query(&mut self) -> Call {
-        Call::Query(self.random.pick(&Query::ALL))
     }
 }

@@ -4,6 +4,7 @@ use std::fmt::Write;
 
 use crate::line::Line;
 use crate::outcome::Outcome;
+use crate::performer::Performer;
 use crate::session::Session;
 
 /// A script in parts, each of which takes one control state's next steps, and all that

@@ -10,7 +10,8 @@ mod steps;
 use std::collections::HashSet;
 
 use crate::line::Line;
-use crate::session::{Session, Stop};
+use crate::performer::{Performer, Stop};
+use crate::session::Session;
 
 pub use batch::Batch;
 use control::Control;

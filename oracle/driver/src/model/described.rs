@@ -1,0 +1,282 @@
+//! The driver values that refusal 12 describes, clause by clause as the readings have it,
+//! with request 2026-07's for the line. No driver that came from a new one is such a value,
+//! so through the calls only the pool's length can show.
+
+use std::ops::RangeInclusive;
+
+use super::driver::{Driver, Lent, MOST_RECEIVE, UnderWay, What};
+use super::states::*;
+use crate::area::{BUFFER, CLIENT_BUFFERS, SPI_BUF, SPI_RX, SPI_TX};
+
+const SPI_BUF_LENGTHS: RangeInclusive<usize> = 129..=BUFFER;
+const RECEIVE_LENGTHS: RangeInclusive<usize> = 129..=BUFFER;
+const SHORTEST: usize = 2;
+/// n at transmit, and how much more its buffer has at least.
+const SENT: RangeInclusive<u8> = 2..=127;
+const MORE: usize = 3;
+/// Bytes of a frame transfer before the frame's own.
+const PSDU_OFFSET: usize = 2;
+
+pub fn described(driver: &Driver) -> bool {
+    recorded_wrongly(driver)
+        || wrong_lengths(driver)
+        || wrong_transfer(driver)
+        || buffer_missing(driver)
+}
+
+/// A buffer recorded twice, an own buffer nowhere, a client's place with another's buffer,
+/// or more in a client's place than it takes.
+fn recorded_wrongly(driver: &Driver) -> bool {
+    let places = driver.places();
+    let count = |buffer| places.iter().filter(|(held, _)| *held == buffer).count();
+    let twice = places.iter().any(|(buffer, _)| count(*buffer) > 1);
+    let nowhere = [SPI_TX, SPI_RX, SPI_BUF].iter().any(|own| count(*own) == 0);
+    let (sent, received) = lent(driver);
+    let foreign = |lent: &Lent| lent.buffer >= CLIENT_BUFFERS;
+    let others = sent.iter().chain(&received).any(foreign);
+    twice || nowhere || others || sent.len() > 1 || received.len() > MOST_RECEIVE
+}
+
+/// What clients lent for sending and for receiving, held or under way.
+fn lent(driver: &Driver) -> (Vec<Lent>, Vec<Lent>) {
+    let mut sent: Vec<Lent> = driver.tx_buf.into_iter().collect();
+    let mut received = driver.line.clone();
+    match driver.under_way.as_ref().map(|under_way| under_way.what) {
+        Some(What::FrameWrite(lent)) => sent.push(lent),
+        Some(What::FrameRead(lent)) => received.push(lent),
+        _ => {}
+    }
+    (sent, received)
+}
+
+/// A length out of bounds.
+fn wrong_lengths(driver: &Driver) -> bool {
+    let spi_buf = &driver.spi_buf;
+    let own = SPI_BUF_LENGTHS.contains(&spi_buf.whole)
+        && (SHORTEST..=spi_buf.whole).contains(&spi_buf.present);
+    let (sent, received) = lent(driver);
+    let least = usize::from(driver.tx_len) + MORE;
+    let fits =
+        |lent: &Lent| SENT.contains(&driver.tx_len) && (least..=BUFFER).contains(&lent.length);
+    let long = |lent: &Lent| RECEIVE_LENGTHS.contains(&lent.length);
+    !(own && sent.iter().all(fits) && received.iter().all(long))
+}
+
+/// A frame transfer in another state than its own, of the other kind, with handling set or
+/// with other lengths; or such a state without its transfer.
+fn wrong_transfer(driver: &Driver) -> bool {
+    let needed = matches!(
+        driver.state,
+        TX_WRITING_FRAME | RX_READING_FRAME_LEN | RX_READING_FRAME
+    );
+    match &driver.under_way {
+        Some(UnderWay {
+            what: What::FrameRead(lent),
+            write_length,
+            read_length,
+        }) => {
+            let state = matches!(driver.state, RX_READING_FRAME_LEN | RX_READING_FRAME);
+            let lengths = (driver.spi_buf.present, lent.length);
+            !state || driver.flags.interrupt_handling || (*write_length, *read_length) != lengths
+        }
+        Some(UnderWay {
+            what: What::FrameWrite(_),
+            write_length,
+            read_length,
+        }) => {
+            let state = driver.state == TX_WRITING_FRAME;
+            let n = usize::from(driver.tx_len);
+            let lengths = (PSDU_OFFSET + n, driver.spi_buf.present);
+            !state || driver.flags.interrupt_handling || (*write_length, *read_length) != lengths
+        }
+        _ => needed,
+    }
+}
+
+/// No buffer where the state takes one.
+fn buffer_missing(driver: &Driver) -> bool {
+    match driver.state {
+        TX_STATUS_PRECHECK1 | TX_RETURN_TO_RX => driver.tx_buf.is_none(),
+        RX_START_READING | RX_READING_FRAME_LEN_DONE | RX_ENABLING_RECEPTION => {
+            driver.line.is_empty()
+        }
+        _ => false,
+    }
+}
+
+#[cfg(test)]
+mod tests {
+    use super::described;
+    use crate::model::driver::{Driver, Lent, UnderWay, What};
+    use crate::model::states::*;
+
+    const FIRST: Lent = Lent {
+        buffer: 1,
+        length: 160,
+    };
+    const SECOND: Lent = Lent {
+        buffer: 2,
+        length: 129,
+    };
+
+    fn transfer(what: What, write_length: usize, read_length: usize) -> Option<UnderWay> {
+        Some(UnderWay {
+            what,
+            write_length,
+            read_length,
+        })
+    }
+
+    /// In READY, with a frame to send and two receive buffers.
+    fn ready() -> Driver {
+        let mut driver = Driver::new(140, 26);
+        driver.state = READY;
+        driver.tx_buf = Some(FIRST);
+        driver.tx_len = 10;
+        driver.line = vec![
+            SECOND,
+            Lent {
+                buffer: 3,
+                ..SECOND
+            },
+        ];
+        driver
+    }
+
+    /// With the frame under way to the radio.
+    fn writing() -> Driver {
+        let mut driver = ready();
+        driver.state = TX_WRITING_FRAME;
+        driver.tx_buf = None;
+        driver.own.spi_buf = false;
+        driver.under_way = transfer(What::FrameWrite(FIRST), 12, 140);
+        driver
+    }
+
+    /// With a length read under way.
+    fn reading() -> Driver {
+        let mut driver = ready();
+        driver.state = RX_READING_FRAME_LEN;
+        driver.line.remove(0);
+        driver.own.spi_buf = false;
+        driver.spi_buf.present = 2;
+        driver.under_way = transfer(What::FrameRead(SECOND), 2, 129);
+        driver
+    }
+
+    #[test]
+    fn what_calls_lead_to_is_not_described() {
+        for driver in [Driver::new(129, 11), ready(), writing(), reading()] {
+            assert!(!described(&driver), "{driver:?}");
+        }
+        let mut four = reading();
+        four.line
+            .extend([4, 5].map(|buffer| Lent { buffer, ..FIRST }));
+        assert!(!described(&four));
+    }
+
+    /// Changes that make a described driver value of one that is not.
+    fn all_described(driver: fn() -> Driver, changes: &[fn(&mut Driver)]) {
+        for (place, change) in changes.iter().enumerate() {
+            let mut driver = driver();
+            change(&mut driver);
+            assert!(described(&driver), "change {place}: {driver:?}");
+        }
+    }
+
+    #[test]
+    fn each_clause_of_places_and_lengths() {
+        all_described(
+            ready,
+            &[
+                |driver| driver.line[0].buffer = 1,
+                |driver| driver.line[0].buffer = 3,
+                |driver| driver.own.spi_tx = false,
+                |driver| driver.own.spi_buf = false,
+                |driver| driver.line[1].buffer = 16,
+                |driver| {
+                    driver.tx_buf = Some(Lent {
+                        buffer: 19,
+                        ..FIRST
+                    })
+                },
+                |driver| driver.spi_buf.whole = 128,
+                |driver| driver.spi_buf.whole = 161,
+                |driver| driver.spi_buf.present = 1,
+                |driver| driver.spi_buf.present = 141,
+                |driver| driver.tx_len = 1,
+                |driver| driver.tx_len = 128,
+                |driver| {
+                    driver.tx_buf = Some(Lent {
+                        length: 12,
+                        ..FIRST
+                    })
+                },
+                |driver| {
+                    driver.tx_buf = Some(Lent {
+                        length: 161,
+                        ..FIRST
+                    })
+                },
+                |driver| driver.line[0].length = 128,
+                |driver| driver.line[1].length = 161,
+                |driver| {
+                    let more = [4, 5, 6].map(|buffer| Lent { buffer, ..SECOND });
+                    driver.line.extend(more);
+                },
+            ],
+        );
+    }
+
+    #[test]
+    fn each_clause_of_states() {
+        all_described(
+            ready,
+            &[
+                |driver| driver.state = TX_WRITING_FRAME,
+                |driver| driver.state = RX_READING_FRAME_LEN,
+                |driver| driver.state = RX_READING_FRAME,
+                |driver| (driver.state, driver.tx_buf) = (TX_STATUS_PRECHECK1, None),
+                |driver| (driver.state, driver.tx_buf) = (TX_RETURN_TO_RX, None),
+                |driver| (driver.state, driver.line) = (RX_START_READING, vec![]),
+                |driver| (driver.state, driver.line) = (RX_READING_FRAME_LEN_DONE, vec![]),
+                |driver| (driver.state, driver.line) = (RX_ENABLING_RECEPTION, vec![]),
+            ],
+        );
+    }
+
+    #[test]
+    fn each_clause_during_a_frame_transfer() {
+        let both: &[fn(&mut Driver)] = &[
+            |driver| driver.state = READY,
+            |driver| driver.flags.interrupt_handling = true,
+            |driver| driver.spi_buf.present = 3,
+            |driver| driver.own.spi_buf = true,
+            |driver| driver.under_way.as_mut().unwrap().write_length += 1,
+            |driver| driver.under_way.as_mut().unwrap().read_length -= 1,
+        ];
+        all_described(writing, both);
+        all_described(reading, both);
+        all_described(
+            writing,
+            &[
+                |driver| driver.state = RX_READING_FRAME,
+                |driver| driver.tx_buf = Some(Lent { buffer: 9, ..FIRST }),
+                |driver| driver.line[0] = FIRST,
+                |driver| driver.tx_len = 11,
+            ],
+        );
+        all_described(
+            reading,
+            &[
+                |driver| driver.state = TX_WRITING_FRAME,
+                |driver| {
+                    driver
+                        .line
+                        .extend([5, 6, 7].map(|buffer| Lent { buffer, ..FIRST }))
+                },
+                |driver| driver.line[0] = SECOND,
+            ],
+        );
+    }
+}
