@@ -17,6 +17,7 @@ use Rattle.rf233.specs.declared.arrived.Arrived.{Arrived}
 use Rattle.rf233.specs.declared.driver.Buffers.{Buffers}
 use Rattle.rf233.specs.declared.driver.Driver.{Driver}
 use Rattle.rf233.specs.declared.driver.Lent.{Lent}
+use Rattle.std.specs.List.{fold}
 use Rattle.custody.specs.Book.{Page, noted, noted_all, given}
 use Rattle.laws.proofs.Logic.{left, right}
 use Rattle.rf233.proofs.ChoiceLaws.{branch}
@@ -24,17 +25,18 @@ use Rattle.rf233.proofs.Facts.{Facts, holding}
 use Rattle.rf233.proofs.Fit.{harmless, ok_shown}
 use Rattle.custody.proofs.Match.{Match, gives_tx, gives_rx, turns}
 
--- what fills the list past its count is passed over
-nothings : (n m : ℕ) (k : Page) → noted_all (take n (replicate m action.Nothing)) k ≡ k
-nothings zero m k = refl
-nothings (suc n) zero k = refl
-nothings (suc n) (suc m) k = nothings n m k
+-- what fills the list past its count is passed over, by whatever passes over `Nothing`
+module _ {K : Type 0} (f : K → Action → K) (passes : (k : K) → f k action.Nothing ≡ k) where
+  nothings : (n m : ℕ) (k : K) → fold f k (take n (replicate m action.Nothing)) ≡ k
+  nothings zero m k = refl
+  nothings (suc n) zero k = refl
+  nothings (suc n) (suc m) k = nothings n m (f k action.Nothing) ∙ passes k
 
-pub noted_padded : (n m : ℕ) (l : List Action) (k : Page) → length l ≤ n
-    → noted_all (take n (l ++ replicate m action.Nothing)) k ≡ noted_all l k
-noted_padded n m [] k h = nothings n m k
-noted_padded zero m (x ∷ l) k h = absurd (not-suc-le-zero h)
-noted_padded (suc n) m (x ∷ l) k h = noted_padded n m l (noted x k) (le_of_suc-le-suc h)
+  pub padded_same : (n m : ℕ) (l : List Action) (k : K) → length l ≤ n
+      → fold f k (take n (l ++ replicate m action.Nothing)) ≡ fold f k l
+  padded_same n m [] k h = nothings n m k
+  padded_same zero m (x ∷ l) k h = absurd (not-suc-le-zero h)
+  padded_same (suc n) m (x ∷ l) k h = padded_same n m l (f k x) (le_of_suc-le-suc h)
 
 -- an action that hands nothing back leaves the book as it is
 quietly : (x : Action) (k : Page) → T (harmless x) → noted x k ≡ k

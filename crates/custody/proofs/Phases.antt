@@ -30,7 +30,7 @@ use Rattle.rf233.specs.declared.state.InternalState.TheVariants.{
   RX_TURNING_OFF,
   TX_STATUS_PRECHECK1,
 }
-use Rattle.custody.specs.Book.{Page, noted_all}
+use Rattle.custody.specs.Book.{Page, noted, noted_all}
 use Rattle.custody.specs.Claim.{kind_of}
 use Rattle.laws.proofs.Logic.{left, right}
 use Rattle.rf233.proofs.ChoiceLaws.{branch}
@@ -41,7 +41,7 @@ use Rattle.rf233.proofs.Fit.{fit, ok_shown, ok_row, row_fits, to_45, to_60, to_h
 use Rattle.rf233.proofs.Fit.{to_42, fuller_access}
 use Rattle.rf233.proofs.OwnBuffers.{idle_is}
 use Rattle.rf233.proofs.Trees.{row_of}
-use Rattle.custody.proofs.Actions.{noted_padded, fewer, hands}
+use Rattle.custody.proofs.Actions.{padded_same, fewer, hands}
 use Rattle.custody.proofs.Custody.{
   Inv,
   After,
@@ -120,7 +120,7 @@ module _ (k : Page) where
       let z = accessed x a y c in
       subst (λ n. Inv (with_transfer z n) z.driver)
       (sym (ap (λ (w : Actions). noted_all w.items k) (every_access (λ (o : Outcome). o.reply.actions ≡ y) a y c (λ e t. refl) x)
-      ∙ noted_padded 6 6 (shown a e sh) k (le_trans (fewer a e sh) six))) kept
+      ∙ padded_same (λ k x. noted x k) (λ k. refl) 6 6 (shown a e sh) k (le_trans (fewer a e sh) six))) kept
 
   own_keeps : (a : Arrived) (d : Driver) → Rest k d → After k (own_case a d)
   unfolding case_of

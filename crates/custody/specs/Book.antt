@@ -2,6 +2,7 @@
 -- fault stays once found; what is found faulty is entered all the same, so that there is nothing to choose.
 use Rattle.std.specs.Prelude.{ℕ, zero, suc, ◌+◌, Bool, true, false, cond, not, ◌&&◌, ◌||◌, List, [], ◌∷◌, ◌++◌, replicate, ◌==◌, nat_le}
 use Rattle.std.specs.Prelude.{nat_lt, slice_index_or, slice_set, Option, None, Some}
+use Rattle.std.specs.List.{fold}
 use Rattle.rf233.specs.Answer.{answer_no}
 use Rattle.rf233.specs.Line.{line_room}
 use Rattle.rf233.specs.Record.{one}
@@ -130,8 +131,7 @@ noted action.ResetSet k = k
 
 -- the actions in order
 abbrev pub noted_all : List Action → Page → Page
-noted_all [] k = k
-noted_all (x ∷ more) k = noted_all more (noted x k)
+noted_all l k = fold (λ k x. noted x k) k l
 
 -- it names the right own buffers: 16 and 17 (register), 18 (frame)
 abbrev pub names_own : ℕ → ℕ → ℕ → Bool

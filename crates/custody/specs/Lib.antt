@@ -1,4 +1,5 @@
 pub mod Book
 pub mod Claim
+pub mod OldestFirst
 pub mod Yield
 pub mod BookCode

@@ -1,6 +1,6 @@
 -- One walk through the definitions of the calls: what holds of refusals, of register transfers and quiet steps without an action, of a
--- reset and of completions (`OfCalls`) holds of every call (`every_call`), whatever the driver value, the arguments and the pool.
--- Assumes nothing.
+-- reset, of a lending to receive and of completions (`OfCalls`) holds of every call (`every_call`), whatever the driver value, the
+-- arguments and the pool. Of the driver with which such a step begins it is known what the call laid down (`Lays`). Assumes nothing.
 use Rattle.std.proofs.Common.{◌≡◌, ℕ, ◌+◌, false, T, leb, List, [], ◌∷◌, set, refl}
 use Rattle.laws.proofs.Logic.{is_false}
 use Rattle.rf233.specs.Action.{actions}
@@ -8,7 +8,13 @@ use Rattle.rf233.specs.Answer.{answer_no, answer_of}
 use Rattle.rf233.specs.Completion.{completed}
 use Rattle.rf233.specs.Config.{begin_start, start_call, begin_stop, stop_call, begin_commit, commit_call, reset_call, set_power}
 use Rattle.rf233.specs.Config.{set_channel}
-use Rattle.rf233.specs.Data.{begin_transmit, transmit_call, receive_buffer_call}
+use Rattle.rf233.specs.Data.{begin_transmit, rx_full, transmit_call, receive_buffer_call}
+use Rattle.rf233.specs.Driver.{listening, with_buffers, with_tx, with_line, with_tx_len}
+use Rattle.rf233.specs.Line.{line, append}
+use Rattle.rf233.specs.Record.{lent}
+use Rattle.rf233.specs.declared.driver.Buffers.{Buffers}
+use Rattle.rf233.specs.declared.driver.Clients.{Clients}
+use Rattle.std.specs.Prelude.{Bool, Option, Some}
 use Rattle.rf233.specs.Described.{described}
 use Rattle.rf233.specs.Guard.{Called, refusing, stepping, pool_fault}
 use Rattle.rf233.specs.Interrupt.{handle_interrupt}
@@ -49,18 +55,65 @@ use Rattle.rf233.specs.Refusal.{left_by}
 abbrev pub reset_actions : List Action
 reset_actions = ResetMakeOutput ∷ SleepMakeOutput ∷ ResetClear 10000 ∷ ResetSet ∷ SleepClear ∷ []
 
+-- the record with a buffer to transmit, lent by a call; any other call leaves it, but `set_receive_buffer`, which stands apart
+abbrev pub laid : Call → Buffers → Buffers
+laid start r = r
+laid stop r = r
+laid commit r = r
+laid fire r = r
+laid query r = r
+laid (complete xs) r = r
+laid (transmit b l n) r = with_tx_len (n + 2) (with_tx (Some (lent b l)) r)
+laid (receive_buffer b l) r = r
+laid (reset v) r = r
+laid (address a) r = r
+laid (pan a) r = r
+laid (channel c) r = r
+laid (address_long l) r = r
+laid (power t) r = r
+laid (listener x v) r = r
+
+-- the listeners after a call
+abbrev pub attending : Call → Clients → Clients
+attending start k = k
+attending stop k = k
+attending commit k = k
+attending fire k = k
+attending query k = k
+attending (complete xs) k = k
+attending (transmit b l n) k = k
+attending (receive_buffer b l) k = k
+attending (reset v) k = k
+attending (address a) k = k
+attending (pan a) k = k
+attending (channel c) k = k
+attending (address_long l) k = k
+attending (power t) k = k
+attending (listener x v) k = listening x v k
+
+-- the driver e with which a call's step begins, made on d
+pub record Lays (c : Call) (d e : Driver) : Type 0 where
+  pub buffers : e.buffers ≡ laid c d.buffers
+  pub clients : e.clients ≡ attending c d.clients
+
+lays : {c : Call} {d e : Driver} → e.buffers ≡ laid c d.buffers → e.clients ≡ attending c d.clients → Lays c d e
+lays b k = record { buffers = b; clients = k }
+
 -- on this driver, with this pool
 pub record OfCalls (d : Driver) (p : List ℕ) (P : Call → Called → Type 0) : Type 0 where
   -- a refusal by any of a call's numbers, 1 to 14, that leaves the driver that it may
   pub refuses : (c : Call) (n : ℕ) (e : Driver) → T (leb (answer_no (answer_of n)) 14) → e ≡ left_by c (answer_no (answer_of n)) d
       → P c (refusing n e p)
   -- a step that starts nothing, and the two register transfers, whatever the pool is then
-  pub rests : (c : Call) (e : Driver) (q : List ℕ) → P c (with_pool (quiet e (actions [])) q)
-  pub reads : (c : Call) (x y : ℕ) (e : Driver) (q : List ℕ)
+  pub rests : (c : Call) (e : Driver) (q : List ℕ) → Lays c d e → P c (with_pool (quiet e (actions [])) q)
+  pub reads : (c : Call) (x y : ℕ) (e : Driver) (q : List ℕ) → Lays c d e
       → P c (with_pool (step_of (register_transfer transfer.RegisterRead x y e) (actions [])) q)
-  pub writes : (c : Call) (x y : ℕ) (e : Driver) (q : List ℕ)
+  pub writes : (c : Call) (x y : ℕ) (e : Driver) (q : List ℕ) → Lays c d e
       → P c (with_pool (step_of (register_transfer transfer.RegisterWrite x y e) (actions [])) q)
-  pub resets : (c : Call) (e : Driver) (q : List ℕ) → P c (with_pool (quiet e (actions reset_actions)) q)
+  pub resets : (v : Bool) (e : Driver) (q : List ℕ) → Lays (reset v) d e → P (reset v) (with_pool (quiet e (actions reset_actions)) q)
+  -- a buffer taken in where there is room in the line
+  pub lends : (b l : ℕ) (q : List ℕ) → rx_full d ≡ false
+      → P (receive_buffer b l) (with_pool (quiet (with_buffers (with_line (append (line d.buffers) (lent b l)) d.buffers) d) (actions [])) q)
   -- a completion of a driver value that refusal 12 does not describe
   pub completes : (c : Call) (a : Arrived) (q : List ℕ) → described d ≡ false → P c (with_pool (completed a d) q)
 
@@ -73,11 +126,12 @@ module _ (d : Driver) (p : List ℕ) (P : Call → Called → Type 0) (of : OfCa
   abbrev Alone : Call → Outcome → Type 0
   Alone c o = P c (with_pool o p)
 
+
   of_start : P start (start_call d p)
   unfolding start_call begin_start
   of_start =
       either (P start) _ _ _ (of.refuses start 12 d tt refl)
-      (either (P start) _ _ _ (either (Steps start) _ _ _ (of.reads start _ _ _ _) (of.reads start _ _ _ _))
+      (either (P start) _ _ _ (either (Steps start) _ _ _ (of.reads start _ _ _ _ (lays refl refl)) (of.reads start _ _ _ _ (lays refl refl)))
       (of.refuses start 6 _ tt refl))
 
   of_stop : P stop (stop_call d p)
@@ -85,20 +139,20 @@ module _ (d : Driver) (p : List ℕ) (P : Call → Called → Type 0) (of : OfCa
   of_stop =
       either (P stop) _ _ _ (of.refuses stop 12 d tt refl)
       (either (P stop) _ _ _ (of.refuses stop 6 d tt refl)
-      (either (Steps stop) _ _ _ (of.writes stop _ _ _ _) (of.rests stop _ _)))
+      (either (Steps stop) _ _ _ (of.writes stop _ _ _ _ (lays refl refl)) (of.rests stop _ _ (lays refl refl))))
 
   of_commit : P commit (commit_call d p)
   unfolding commit_call begin_commit
   of_commit =
       either (P commit) _ _ _ (of.refuses commit 12 d tt refl)
-      (either (Steps commit) _ _ _ (of.rests commit d _)
-      (either (Steps commit) _ _ _ (commit_by (Steps commit) _ (of.writes commit _ _ _ _) (of.rests commit _ _)) (of.rests commit _ _)))
+      (either (Steps commit) _ _ _ (of.rests commit d _ (lays refl refl))
+      (either (Steps commit) _ _ _ (commit_by (Steps commit) _ (of.writes commit _ _ _ _ (lays refl refl)) (of.rests commit _ _ (lays refl refl))) (of.rests commit _ _ (lays refl refl))))
 
   of_fired : P fire (fired_call d p)
   unfolding fired_call handle_interrupt
   of_fired =
       either (P fire) _ _ _ (of.refuses fire 12 d tt refl)
-      (either (Steps fire) _ _ _ (either (Steps fire) _ _ _ (of.writes fire _ _ _ _) (of.reads fire _ _ _ _)) (of.rests fire _ _))
+      (either (Steps fire) _ _ _ (either (Steps fire) _ _ _ (of.writes fire _ _ _ _ (lays refl refl)) (of.reads fire _ _ _ _ (lays refl refl))) (of.rests fire _ _ (lays refl refl)))
 
   of_completion : (xs : List ℕ) → P (complete xs) (completion_call d xs p)
   unfolding completion_call completing
@@ -119,7 +173,7 @@ module _ (d : Driver) (p : List ℕ) (P : Call → Called → Type 0) (of : OfCa
       (either (P c) _ _ _ (of.refuses c 3 d tt refl)
       (either (P c) _ _ _ (of.refuses c 4 d tt refl)
       (either (P c) _ _ _ (of.refuses c 8 d tt refl)
-      (either (λ o. P c (stepping o (set p (start_of b + 1) (n + 2)))) _ _ _ (of.reads c _ _ _ _) (of.rests c _ _))))))))
+      (either (λ o. P c (stepping o (set p (start_of b + 1) (n + 2)))) _ _ _ (of.reads c _ _ _ _ (lays refl refl)) (of.rests c _ _ (lays refl refl)))))))))
 
   of_receive_buffer : (b l : ℕ) → Alone (receive_buffer b l) (receive_buffer_call d b l)
   unfolding receive_buffer_call
@@ -127,8 +181,8 @@ module _ (d : Driver) (p : List ℕ) (P : Call → Called → Type 0) (of : OfCa
       let c = receive_buffer b l in
       either (Alone c) _ _ _ (of.refuses c 7 d tt refl)
       (either (Alone c) _ _ _ (of.refuses c 9 d tt refl)
-      (either (Alone c) _ _ _ (of.refuses c 10 d tt refl)
-      (either (Alone c) _ _ _ (of.refuses c 8 d tt refl) (of.rests c _ _))))
+      (branch (Alone c) (rx_full d) _ _ (λ t. of.refuses c 10 d tt refl)
+      (λ t. either (Alone c) _ _ _ (of.refuses c 8 d tt refl) (of.lends b l _ (is_false (rx_full d) t)))))
 
   pub every_call : (c : Call) → P c (made d c p)
   unfolding made reset_call set_power set_channel
@@ -136,14 +190,14 @@ module _ (d : Driver) (p : List ℕ) (P : Call → Called → Type 0) (of : OfCa
   every_call stop = of_stop
   every_call commit = of_commit
   every_call fire = of_fired
-  every_call query = of.rests query d _
+  every_call query = of.rests query d _ (lays refl refl)
   every_call (complete xs) = of_completion xs
   every_call (transmit b l n) = of_transmit b l n
   every_call (receive_buffer b l) = of_receive_buffer b l
-  every_call (reset v) = either (Alone (reset v)) _ _ _ (of.resets (reset v) _ _) (of.refuses (reset v) 14 d tt refl)
-  every_call (address a) = of.rests (address a) _ _
-  every_call (pan a) = of.rests (pan a) _ _
-  every_call (channel c) = either (Alone (channel c)) _ _ _ (of.rests (channel c) _ _) (of.refuses (channel c) 5 d tt refl)
-  every_call (address_long l) = of.rests (address_long l) _ _
-  every_call (power t) = either (Alone (power t)) _ _ _ (of.rests (power t) _ _) (of.refuses (power t) 5 d tt refl)
-  every_call (listener x v) = of.rests (listener x v) _ _
+  every_call (reset v) = either (Alone (reset v)) _ _ _ (of.resets v _ _ (lays refl refl)) (of.refuses (reset v) 14 d tt refl)
+  every_call (address a) = of.rests (address a) _ _ (lays refl refl)
+  every_call (pan a) = of.rests (pan a) _ _ (lays refl refl)
+  every_call (channel c) = either (Alone (channel c)) _ _ _ (of.rests (channel c) _ _ (lays refl refl)) (of.refuses (channel c) 5 d tt refl)
+  every_call (address_long l) = of.rests (address_long l) _ _ (lays refl refl)
+  every_call (power t) = either (Alone (power t)) _ _ _ (of.rests (power t) _ _ (lays refl refl)) (of.refuses (power t) 5 d tt refl)
+  every_call (listener x v) = of.rests (listener x v) _ _ (lays refl refl)
