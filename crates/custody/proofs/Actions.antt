@@ -77,10 +77,10 @@ module _ (a : Arrived) (d : Driver) where
     pub rx_of : T c.rx → T (some (line b)) × (line b ≡ line d.buffers)
 
   -- once the transmit place is empty, and once the front of the line has moved
-  sent_of : {c : Facts} {b : Buffers} → Of c b → Of (holding false c.rx c) (without_tx b)
+  pub sent_of : {c : Facts} {b : Buffers} → Of c b → Of (holding false c.rx c) (without_tx b)
   sent_of f = record { tx_of = λ y. absurd y; rx_of = f.rx_of }
 
-  moved_of : {c : Facts} {b e : Buffers} → Of c b → e.tx_buf ≡ b.tx_buf → Of (holding c.tx false c) e
+  pub moved_of : {c : Facts} {b e : Buffers} → Of c b → e.tx_buf ≡ b.tx_buf → Of (holding c.tx false c) e
   moved_of f q = record { tx_of = λ y. rw q (f.tx_of y); rx_of = λ y. absurd y }
 
   pub hands : (sh : List Shown) (b : Buffers) (k : Page) (c : Facts) → Of c b → T (ok_shown sh c) → Match b k

@@ -20,7 +20,7 @@ use Rattle.rf233.proofs.ChoiceLaws.{branch}
 use Rattle.custody.proofs.Match.{match_new, fitted, own_kept, counted_in_record}
 
 -- the invariant of a world
-abbrev Holds : World → Type 0
+abbrev pub Holds : World → Type 0
 Holds w = Inv w.book w.driver
 
 -- a new driver meets it
@@ -43,7 +43,7 @@ new_holds l c e =
     }
 
 -- and 15's driver
-newly : (l c : ℕ) → Holds (new_world l c)
+pub newly : (l c : ℕ) → Holds (new_world l c)
 unfolding new_call
 newly l c =
     branch (λ (o : Outcome). Inv new_page o.driver) _ _ _

@@ -45,7 +45,7 @@ busy_now u i = grind arith
 back_free : (b : Buffers) (u : Under) → under_way u ≡ true → free_to_start (buffers_back u b) ≡ true
 back_free b u i = grind arith
 
-returned_keeps : (k : Page) (d : Driver) → Inv k d → to_complete d.buffers ≡ true → Rest (ended k) (transfer_over d)
+pub returned_keeps : (k : Page) (d : Driver) → Inv k d → to_complete d.buffers ≡ true → Rest (ended k) (transfer_over d)
 returned_keeps k d v i =
     let u = d.buffers.under in
     record {

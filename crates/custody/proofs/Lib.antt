@@ -12,3 +12,4 @@ pub mod BookLists
 pub mod Faults
 pub mod Shown
 pub mod Yield
+pub mod OldestFirst

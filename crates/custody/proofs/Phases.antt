@@ -57,12 +57,12 @@ use Rattle.custody.proofs.Custody.{
 use Rattle.custody.proofs.Match.{Match, begins}
 
 -- what the tree asks of the length, as a fact about the byte
-length_known : (a : Arrived) (d : Driver) → holds length_fits a d ≡ within 11 127 a.result
+pub length_known : (a : Arrived) (d : Driver) → holds length_fits a d ≡ within 11 127 a.result
 unfolding holds
 length_known a d = refl
 
 -- the state that a row enters leaves the record
-entering_record : (m : Next) (d : Driver) → (entering m d).buffers ≡ d.buffers
+pub entering_record : (m : Next) (d : Driver) → (entering m d).buffers ≡ d.buffers
 entering_record m d = grind arith
 
 -- the invariant, where a transfer may begin
@@ -72,7 +72,7 @@ pub record Rest (k : Page) (d : Driver) : Type 0 where
 
 module _ (k : Page) where
   -- no transfer is under way
-  rests : (d : Driver) → Rest k d → T (is_none (kind d.buffers.under))
+  pub rests : (d : Driver) → Rest k d → T (is_none (kind d.buffers.under))
   rests d v = rw (idle_is d.buffers.under v.free) tt
 
   -- another driver with the same record

@@ -162,11 +162,10 @@ completion_yields a d =
 pub six_actions : SixActions
 six_actions d c p =
     every_call d p (λ c t. Yields t.outcome) (record {
-      refuses = λ c n e t same. nothing (answer_of n);
+      refuses = λ c n e t z same. nothing (answer_of n);
       rests = λ c e q s. nothing Done;
       reads = λ c x y e q s. asks transfer.RegisterRead x y e;
       writes = λ c x y e q s. asks transfer.RegisterWrite x y e;
-      lends = λ b l q r. nothing Done;
       resets = λ v e q s. with_actions_lem reset_actions (omega arith) tt Done None (omega arith);
-      completes = λ c a q e. completion_yields a d;
+      completes = λ xs a q e i. completion_yields a d;
     }) c

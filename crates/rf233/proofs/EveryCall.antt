@@ -1,7 +1,7 @@
 -- One walk through the definitions of the calls: what holds of refusals, of register transfers and quiet steps without an action, of a
--- reset, of a lending to receive and of completions (`OfCalls`) holds of every call (`every_call`), whatever the driver value, the
--- arguments and the pool. Of the driver with which such a step begins it is known what the call laid down (`Lays`). Assumes nothing.
-use Rattle.std.proofs.Common.{◌≡◌, ℕ, ◌+◌, false, T, leb, List, [], ◌∷◌, set, refl}
+-- reset and of completions (`OfCalls`) holds of every call (`every_call`), whatever the driver value, the arguments and the pool. Of the driver with which such a step begins it is known what the call laid down (`Lays`). Assumes nothing.
+use Rattle.std.proofs.Common.{◌≡◌, ℕ, ◌+◌, true, false, not, T, eqb, leb, List, [], ◌∷◌, set, refl}
+use borrow.Author.Tests.{not-false}
 use Rattle.laws.proofs.Logic.{is_false}
 use Rattle.rf233.specs.Action.{actions}
 use Rattle.rf233.specs.Answer.{answer_no, answer_of}
@@ -9,7 +9,7 @@ use Rattle.rf233.specs.Completion.{completed}
 use Rattle.rf233.specs.Config.{begin_start, start_call, begin_stop, stop_call, begin_commit, commit_call, reset_call, set_power}
 use Rattle.rf233.specs.Config.{set_channel}
 use Rattle.rf233.specs.Data.{begin_transmit, rx_full, transmit_call, receive_buffer_call}
-use Rattle.rf233.specs.Driver.{listening, with_buffers, with_tx, with_line, with_tx_len}
+use Rattle.rf233.specs.Driver.{listening, with_tx, with_line, with_tx_len}
 use Rattle.rf233.specs.Line.{line, append}
 use Rattle.rf233.specs.Record.{lent}
 use Rattle.rf233.specs.declared.driver.Buffers.{Buffers}
@@ -22,6 +22,7 @@ use Rattle.rf233.specs.Kernel.{fired_call, completing, completion_call}
 use Rattle.rf233.specs.Pool.{start_of}
 use Rattle.rf233.specs.Starter.{register_transfer}
 use Rattle.rf233.specs.Step.{step_of, quiet}
+use Rattle.rf233.specs.Transfer.{to_complete}
 use Rattle.rf233.specs.declared.action.Action.{Action}
 use Rattle.rf233.specs.declared.action.Action.TheVariants.{ResetMakeOutput, SleepMakeOutput, ResetClear, ResetSet, SleepClear}
 use Rattle.rf233.specs.declared.answer.Outcome.{Outcome}
@@ -55,7 +56,7 @@ use Rattle.rf233.specs.Refusal.{left_by}
 abbrev pub reset_actions : List Action
 reset_actions = ResetMakeOutput ∷ SleepMakeOutput ∷ ResetClear 10000 ∷ ResetSet ∷ SleepClear ∷ []
 
--- the record with a buffer to transmit, lent by a call; any other call leaves it, but `set_receive_buffer`, which stands apart
+-- the record with a buffer that a call lends; any other call leaves it
 abbrev pub laid : Call → Buffers → Buffers
 laid start r = r
 laid stop r = r
@@ -64,7 +65,7 @@ laid fire r = r
 laid query r = r
 laid (complete xs) r = r
 laid (transmit b l n) r = with_tx_len (n + 2) (with_tx (Some (lent b l)) r)
-laid (receive_buffer b l) r = r
+laid (receive_buffer b l) r = with_line (append (line r) (lent b l)) r
 laid (reset v) r = r
 laid (address a) r = r
 laid (pan a) r = r
@@ -91,19 +92,39 @@ attending (address_long l) k = k
 attending (power t) k = k
 attending (listener x v) k = listening x v k
 
--- the driver e with which a call's step begins, made on d
+-- a call lends a buffer to receive into
+abbrev pub lending : Call → Bool
+lending start = false
+lending stop = false
+lending commit = false
+lending fire = false
+lending query = false
+lending (complete xs) = false
+lending (transmit b l n) = false
+lending (receive_buffer b l) = true
+lending (reset v) = false
+lending (address a) = false
+lending (pan a) = false
+lending (channel c) = false
+lending (address_long l) = false
+lending (power t) = false
+lending (listener x v) = false
+
+-- the driver e with which a call's step begins, made on d; a buffer is lent to receive into only where there is room
 pub record Lays (c : Call) (d e : Driver) : Type 0 where
   pub buffers : e.buffers ≡ laid c d.buffers
   pub clients : e.clients ≡ attending c d.clients
+  pub room : T (lending c) → rx_full d ≡ false
 
-lays : {c : Call} {d e : Driver} → e.buffers ≡ laid c d.buffers → e.clients ≡ attending c d.clients → Lays c d e
-lays b k = record { buffers = b; clients = k }
+lays : {c : Call} {d e : Driver} → e.buffers ≡ laid c d.buffers → e.clients ≡ attending c d.clients → (T (lending c) → rx_full d ≡ false)
+    → Lays c d e
+lays b k r = record { buffers = b; clients = k; room = r }
 
 -- on this driver, with this pool
 pub record OfCalls (d : Driver) (p : List ℕ) (P : Call → Called → Type 0) : Type 0 where
   -- a refusal by any of a call's numbers, 1 to 14, that leaves the driver that it may
-  pub refuses : (c : Call) (n : ℕ) (e : Driver) → T (leb (answer_no (answer_of n)) 14) → e ≡ left_by c (answer_no (answer_of n)) d
-      → P c (refusing n e p)
+  pub refuses : (c : Call) (n : ℕ) (e : Driver) → T (leb (answer_no (answer_of n)) 14) → eqb (answer_no (answer_of n)) 0 ≡ false
+      → e ≡ left_by c (answer_no (answer_of n)) d → P c (refusing n e p)
   -- a step that starts nothing, and the two register transfers, whatever the pool is then
   pub rests : (c : Call) (e : Driver) (q : List ℕ) → Lays c d e → P c (with_pool (quiet e (actions [])) q)
   pub reads : (c : Call) (x y : ℕ) (e : Driver) (q : List ℕ) → Lays c d e
@@ -111,11 +132,9 @@ pub record OfCalls (d : Driver) (p : List ℕ) (P : Call → Called → Type 0) 
   pub writes : (c : Call) (x y : ℕ) (e : Driver) (q : List ℕ) → Lays c d e
       → P c (with_pool (step_of (register_transfer transfer.RegisterWrite x y e) (actions [])) q)
   pub resets : (v : Bool) (e : Driver) (q : List ℕ) → Lays (reset v) d e → P (reset v) (with_pool (quiet e (actions reset_actions)) q)
-  -- a buffer taken in where there is room in the line
-  pub lends : (b l : ℕ) (q : List ℕ) → rx_full d ≡ false
-      → P (receive_buffer b l) (with_pool (quiet (with_buffers (with_line (append (line d.buffers) (lent b l)) d.buffers) d) (actions [])) q)
   -- a completion of a driver value that refusal 12 does not describe
-  pub completes : (c : Call) (a : Arrived) (q : List ℕ) → described d ≡ false → P c (with_pool (completed a d) q)
+  pub completes : (xs : List ℕ) (a : Arrived) (q : List ℕ) → described d ≡ false → to_complete d.buffers ≡ true
+      → P (complete xs) (with_pool (completed a d) q)
 
 module _ (d : Driver) (p : List ℕ) (P : Call → Called → Type 0) (of : OfCalls d p P) where
   -- a step, its transfer's command bytes written
@@ -130,59 +149,61 @@ module _ (d : Driver) (p : List ℕ) (P : Call → Called → Type 0) (of : OfCa
   of_start : P start (start_call d p)
   unfolding start_call begin_start
   of_start =
-      either (P start) _ _ _ (of.refuses start 12 d tt refl)
-      (either (P start) _ _ _ (either (Steps start) _ _ _ (of.reads start _ _ _ _ (lays refl refl)) (of.reads start _ _ _ _ (lays refl refl)))
-      (of.refuses start 6 _ tt refl))
+      either (P start) _ _ _ (of.refuses start 12 d tt refl refl)
+      (either (P start) _ _ _ (either (Steps start) _ _ _ (of.reads start _ _ _ _ (lays refl refl (λ t. absurd t))) (of.reads start _ _ _ _ (lays refl refl (λ t. absurd t))))
+      (of.refuses start 6 _ tt refl refl))
 
   of_stop : P stop (stop_call d p)
   unfolding stop_call begin_stop
   of_stop =
-      either (P stop) _ _ _ (of.refuses stop 12 d tt refl)
-      (either (P stop) _ _ _ (of.refuses stop 6 d tt refl)
-      (either (Steps stop) _ _ _ (of.writes stop _ _ _ _ (lays refl refl)) (of.rests stop _ _ (lays refl refl))))
+      either (P stop) _ _ _ (of.refuses stop 12 d tt refl refl)
+      (either (P stop) _ _ _ (of.refuses stop 6 d tt refl refl)
+      (either (Steps stop) _ _ _ (of.writes stop _ _ _ _ (lays refl refl (λ t. absurd t))) (of.rests stop _ _ (lays refl refl (λ t. absurd t)))))
 
   of_commit : P commit (commit_call d p)
   unfolding commit_call begin_commit
   of_commit =
-      either (P commit) _ _ _ (of.refuses commit 12 d tt refl)
-      (either (Steps commit) _ _ _ (of.rests commit d _ (lays refl refl))
-      (either (Steps commit) _ _ _ (commit_by (Steps commit) _ (of.writes commit _ _ _ _ (lays refl refl)) (of.rests commit _ _ (lays refl refl))) (of.rests commit _ _ (lays refl refl))))
+      either (P commit) _ _ _ (of.refuses commit 12 d tt refl refl)
+      (either (Steps commit) _ _ _ (of.rests commit d _ (lays refl refl (λ t. absurd t)))
+      (either (Steps commit) _ _ _ (commit_by (Steps commit) _ (of.writes commit _ _ _ _ (lays refl refl (λ t. absurd t))) (of.rests commit _ _ (lays refl refl (λ t. absurd t)))) (of.rests commit _ _ (lays refl refl (λ t. absurd t)))))
 
   of_fired : P fire (fired_call d p)
   unfolding fired_call handle_interrupt
   of_fired =
-      either (P fire) _ _ _ (of.refuses fire 12 d tt refl)
-      (either (Steps fire) _ _ _ (either (Steps fire) _ _ _ (of.writes fire _ _ _ _ (lays refl refl)) (of.reads fire _ _ _ _ (lays refl refl))) (of.rests fire _ _ (lays refl refl)))
+      either (P fire) _ _ _ (of.refuses fire 12 d tt refl refl)
+      (either (Steps fire) _ _ _ (either (Steps fire) _ _ _ (of.writes fire _ _ _ _ (lays refl refl (λ t. absurd t))) (of.reads fire _ _ _ _ (lays refl refl (λ t. absurd t)))) (of.rests fire _ _ (lays refl refl (λ t. absurd t))))
 
   of_completion : (xs : List ℕ) → P (complete xs) (completion_call d xs p)
   unfolding completion_call completing
   of_completion xs =
       let c = complete xs in
-      branch (P c) (pool_fault d p) _ _ (λ t. of.refuses c 12 d tt refl)
-      (λ t. either (P c) _ _ _ (of.refuses c 11 d tt refl)
-      (either (P c) _ _ _ (of.refuses c 13 d tt refl) (of.completes c _ _ (driver_right d p (is_false (pool_fault d p) t)))))
+      branch (P c) (pool_fault d p) _ _ (λ t. of.refuses c 12 d tt refl refl)
+      (λ t. branch (P c) (not (to_complete d.buffers)) _ _ (λ i. of.refuses c 11 d tt refl refl)
+      (λ i. either (P c) _ _ _ (of.refuses c 13 d tt refl refl)
+      (of.completes xs _ _ (driver_right d p (is_false (pool_fault d p) t))
+      (not-false (to_complete d.buffers) (is_false (not (to_complete d.buffers)) i)))))
 
   of_transmit : (b l n : ℕ) → P (transmit b l n) (transmit_call d b l n p)
   unfolding transmit_call begin_transmit
   of_transmit b l n =
       let c = transmit b l n in
-      either (P c) _ _ _ (of.refuses c 12 d tt refl)
-      (either (P c) _ _ _ (of.refuses c 7 d tt refl)
-      (either (P c) _ _ _ (of.refuses c 1 d tt refl)
-      (either (P c) _ _ _ (of.refuses c 2 d tt refl)
-      (either (P c) _ _ _ (of.refuses c 3 d tt refl)
-      (either (P c) _ _ _ (of.refuses c 4 d tt refl)
-      (either (P c) _ _ _ (of.refuses c 8 d tt refl)
-      (either (λ o. P c (stepping o (set p (start_of b + 1) (n + 2)))) _ _ _ (of.reads c _ _ _ _ (lays refl refl)) (of.rests c _ _ (lays refl refl)))))))))
+      either (P c) _ _ _ (of.refuses c 12 d tt refl refl)
+      (either (P c) _ _ _ (of.refuses c 7 d tt refl refl)
+      (either (P c) _ _ _ (of.refuses c 1 d tt refl refl)
+      (either (P c) _ _ _ (of.refuses c 2 d tt refl refl)
+      (either (P c) _ _ _ (of.refuses c 3 d tt refl refl)
+      (either (P c) _ _ _ (of.refuses c 4 d tt refl refl)
+      (either (P c) _ _ _ (of.refuses c 8 d tt refl refl)
+      (either (λ o. P c (stepping o (set p (start_of b + 1) (n + 2)))) _ _ _ (of.reads c _ _ _ _ (lays refl refl (λ t. absurd t))) (of.rests c _ _ (lays refl refl (λ t. absurd t))))))))))
 
   of_receive_buffer : (b l : ℕ) → Alone (receive_buffer b l) (receive_buffer_call d b l)
   unfolding receive_buffer_call
   of_receive_buffer b l =
       let c = receive_buffer b l in
-      either (Alone c) _ _ _ (of.refuses c 7 d tt refl)
-      (either (Alone c) _ _ _ (of.refuses c 9 d tt refl)
-      (branch (Alone c) (rx_full d) _ _ (λ t. of.refuses c 10 d tt refl)
-      (λ t. either (Alone c) _ _ _ (of.refuses c 8 d tt refl) (of.lends b l _ (is_false (rx_full d) t)))))
+      either (Alone c) _ _ _ (of.refuses c 7 d tt refl refl)
+      (either (Alone c) _ _ _ (of.refuses c 9 d tt refl refl)
+      (branch (Alone c) (rx_full d) _ _ (λ t. of.refuses c 10 d tt refl refl)
+      (λ t. either (Alone c) _ _ _ (of.refuses c 8 d tt refl refl) (of.rests c _ _ (lays refl refl (λ r. is_false (rx_full d) t))))))
 
   pub every_call : (c : Call) → P c (made d c p)
   unfolding made reset_call set_power set_channel
@@ -190,14 +211,14 @@ module _ (d : Driver) (p : List ℕ) (P : Call → Called → Type 0) (of : OfCa
   every_call stop = of_stop
   every_call commit = of_commit
   every_call fire = of_fired
-  every_call query = of.rests query d _ (lays refl refl)
+  every_call query = of.rests query d _ (lays refl refl (λ t. absurd t))
   every_call (complete xs) = of_completion xs
   every_call (transmit b l n) = of_transmit b l n
   every_call (receive_buffer b l) = of_receive_buffer b l
-  every_call (reset v) = either (Alone (reset v)) _ _ _ (of.resets v _ _ (lays refl refl)) (of.refuses (reset v) 14 d tt refl)
-  every_call (address a) = of.rests (address a) _ _ (lays refl refl)
-  every_call (pan a) = of.rests (pan a) _ _ (lays refl refl)
-  every_call (channel c) = either (Alone (channel c)) _ _ _ (of.rests (channel c) _ _ (lays refl refl)) (of.refuses (channel c) 5 d tt refl)
-  every_call (address_long l) = of.rests (address_long l) _ _ (lays refl refl)
-  every_call (power t) = either (Alone (power t)) _ _ _ (of.rests (power t) _ _ (lays refl refl)) (of.refuses (power t) 5 d tt refl)
-  every_call (listener x v) = of.rests (listener x v) _ _ (lays refl refl)
+  every_call (reset v) = either (Alone (reset v)) _ _ _ (of.resets v _ _ (lays refl refl (λ t. absurd t))) (of.refuses (reset v) 14 d tt refl refl)
+  every_call (address a) = of.rests (address a) _ _ (lays refl refl (λ t. absurd t))
+  every_call (pan a) = of.rests (pan a) _ _ (lays refl refl (λ t. absurd t))
+  every_call (channel c) = either (Alone (channel c)) _ _ _ (of.rests (channel c) _ _ (lays refl refl (λ t. absurd t))) (of.refuses (channel c) 5 d tt refl refl)
+  every_call (address_long l) = of.rests (address_long l) _ _ (lays refl refl (λ t. absurd t))
+  every_call (power t) = either (Alone (power t)) _ _ _ (of.rests (power t) _ _ (lays refl refl (λ t. absurd t))) (of.refuses (power t) 5 d tt refl refl)
+  every_call (listener x v) = of.rests (listener x v) _ _ (lays refl refl (λ t. absurd t))

@@ -12,7 +12,7 @@ use Rattle.rf233.specs.declared.driver.Driver.{Driver}
 use Rattle.rf233.proofs.Accepted.{IsDone, done_completed}
 use Rattle.rf233.proofs.ChoiceLaws.{branch, either}
 use Rattle.rf233.specs.Calls.{Call, made, with_pool}
-use Rattle.rf233.specs.Calls.Call.{receive_buffer, reset}
+use Rattle.rf233.specs.Calls.Call.{complete, reset}
 use Rattle.rf233.specs.Refusal.{TurnedDown, left_by, answered, RefusedAltersNothing, RefusedNew, HeldIsRefused}
 use Rattle.rf233.proofs.EveryCall.{every_call}
 
@@ -28,13 +28,12 @@ module _ (d : Driver) (p : List ℕ) where
   claimed : (c : Call) → Claimed c (made d c p)
   claimed =
       every_call d p Claimed (record {
-        refuses = λ c n e t same h. record { transfer = refl; actions = refl; driver = same; pool = refl };
+        refuses = λ c n e t z same h. record { transfer = refl; actions = refl; driver = same; pool = refl };
         rests = λ c e q s. done c _ refl;
         reads = λ c x y e q s. done c _ refl;
         writes = λ c x y e q s. done c _ refl;
         resets = λ v e q s. done (reset v) _ refl;
-        lends = λ b l q r. done (receive_buffer b l) _ refl;
-        completes = λ c a q e. done c _ (done_completed a d);
+        completes = λ xs a q e i. done (complete xs) _ (done_completed a d);
       })
 
 -- DEMAND 1
