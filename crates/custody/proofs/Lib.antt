@@ -12,4 +12,5 @@ pub mod BookLists
 pub mod Faults
 pub mod Shown
 pub mod Yield
+pub mod InOrder
 pub mod OldestFirst

@@ -1,11 +1,10 @@
--- `oldest_first` of specs/OldestFirst.antt. At each point the queue that was seen is the driver's receive buffers, the one in a frame read
--- first and then the line, as long as none was lent without a listener (`Good`); a step keeps that by its row, which turns the line only
--- where there is no listener (`rows_quiet`). Beside it goes the invariant of Custody.antt. Assumes nothing.
-use Rattle.std.proofs.Common.{◌≡◌, ℕ, ◌+◌, ◌≤◌, Bool, true, false, not, ◌&&◌, ◌||◌, T, eqb, leb, cond, List, [], ◌∷◌, ◌++◌, length}
-use Rattle.std.proofs.Common.{append_assoc, sym, refl, ap, ◌∙◌, subst, arith, leb→le, le_trans}
-use borrow.Author.Tests.{leb-false}
+-- `oldest_first` of specs/OldestFirst.antt. At each point the queue that was seen is the driver's receive buffers in turn, as long as none was
+-- lent without a listener (`Good`): a step keeps that (InOrder.antt), and so does what a call lays down. Beside it goes the invariant of
+-- Custody.antt. Assumes nothing.
+use Rattle.std.proofs.Common.{◌≡◌, ℕ, Bool, true, false, not, ◌&&◌, ◌||◌, T, eqb, leb, cond, List, [], ◌∷◌, ◌++◌}
+use Rattle.std.proofs.Common.{sym, refl, ap, ◌∙◌, subst, arith}
 use Rattle.std.specs.List.{fold}
-use Rattle.std.specs.Prelude.{Option, None, Some, is_some}
+use Rattle.std.specs.Prelude.{Option, None, Some}
 use Rattle.rf233.specs.Action.{actions}
 use Rattle.rf233.specs.Answer.{answer_no, answer_of, refused}
 use Rattle.rf233.specs.Calls.{Call, yields}
@@ -26,330 +25,43 @@ use Rattle.rf233.specs.Calls.Call.{
   power,
   listener,
 }
-use Rattle.rf233.specs.Case.{accessed, case_of, entering, handed, own_case, perform, shown, tree_at, trees, without_front, without_tx}
-use Rattle.rf233.specs.Choice.{within}
-use Rattle.rf233.specs.Completion.{buffers_back, completed, transfer_over}
+use Rattle.rf233.specs.Completion.{completed, transfer_over}
 use Rattle.rf233.specs.Create.{new_call}
 use Rattle.rf233.specs.Data.{rx_full}
 use Rattle.rf233.specs.Driver.Flag.{sleep_pending}
-use Rattle.rf233.specs.Driver.{Assignment, assigning, flagged, with_buffers, with_line}
-use Rattle.rf233.specs.Interrupt.{handle_interrupt}
-use Rattle.rf233.specs.Line.{append, buffers, front, line, line_room, some}
-use Rattle.rf233.specs.Record.{buffer_in, lent, one, receive_count, rx_under_way}
+use Rattle.rf233.specs.Driver.{flagged, with_line}
+use Rattle.rf233.specs.Line.{append, buffers, line, line_room, some}
+use Rattle.rf233.specs.Record.{lent, receive_count}
 use Rattle.rf233.specs.Refusal.{withdraws}
-use Rattle.rf233.specs.Rows.{Access, Next, Row, Shown, Test, holds}
-use Rattle.rf233.specs.Rows.Access.{none, reads, reads_frame, reads_length, writes, writes_frame}
-use Rattle.rf233.specs.Rows.Next.{same, to}
-use Rattle.rf233.specs.Rows.Row.{does}
-use Rattle.rf233.specs.Rows.Shown.{config_done, dropped_back, plain, power_changed, received_back, received_kept, sent_back}
-use Rattle.rf233.specs.Rows.Test.{is_set, length_fits, listens, status_in}
-use Rattle.rf233.specs.Starter.{frame_read_into, frame_write_from, register_transfer}
-use Rattle.rf233.specs.State.{state_no}
+use Rattle.rf233.specs.Starter.{register_transfer}
 use Rattle.rf233.specs.Step.{quiet, step_of}
-use Rattle.rf233.specs.Transfer.{free_to_start, kind_value, to_complete}
+use Rattle.rf233.specs.Transfer.{kind_value, to_complete}
 use Rattle.rf233.specs.declared.action.Action.{Action}
-use Rattle.rf233.specs.declared.action.Actions.{Actions}
 use Rattle.rf233.specs.declared.answer.Outcome.{Outcome}
 use Rattle.rf233.specs.declared.answer.Reply.{Reply}
 use Rattle.rf233.specs.declared.arrived.Arrived.{Arrived}
 use Rattle.rf233.specs.declared.driver.Buffers.{Buffers}
-use Rattle.rf233.specs.declared.driver.Client.{Client}
 use Rattle.rf233.specs.declared.driver.Client.TheVariants.{Config, Power, Receive, Transmit}
 use Rattle.rf233.specs.declared.driver.Clients.{Clients}
 use Rattle.rf233.specs.declared.driver.Driver.{Driver}
 use Rattle.rf233.specs.declared.driver.Lent.{Lent}
-use Rattle.rf233.specs.declared.driver.Under.{Under}
-use Rattle.rf233.specs.declared.driver.Under.TheVariants.{FrameRead, FrameWrite, Idle, Register}
 use Rattle.rf233.specs.declared.transfer.Transfer.{Transfer}
 use Rattle.rf233.specs.declared.transfer.TransferKind.{TransferKind}
 use Rattle.rf233.specs.declared.transfer.TransferKind.TheVariants as transfer
 use Rattle.custody.specs.Book.{Page, ended, entered, new_page}
 use Rattle.custody.specs.Claim.{Event, fed}
-use Rattle.custody.specs.OldestFirst.{OldestFirst, Queue, Seen, called, handed_back, not_oldest, read_into, saw, seen, stepped, told, unseen}
-use Rattle.laws.proofs.Logic.{all, all_at, all_below, below_at, is_true, left, none_left, none_right, right}
+use Rattle.custody.specs.OldestFirst.{OldestFirst, Queue, Seen, called, not_oldest, read_into, saw, seen, stepped, told, unseen}
+use Rattle.laws.proofs.Logic.{none_left, none_right}
 use Rattle.rf233.proofs.Accepted.{done_completed}
-use Rattle.rf233.proofs.ChoiceLaws.{branch, either}
+use Rattle.rf233.proofs.ChoiceLaws.{either}
 use Rattle.rf233.proofs.EveryCall.{Lays, attending, every_call, laid, lending, reset_actions}
-use Rattle.rf233.proofs.EveryStep.{Ends, Kept, commit_by, completion_by, every_access}
-use Rattle.rf233.proofs.Facts.{Facts, holding, of, settled, settled_is}
-use Rattle.rf233.proofs.Fit.{harmless, ok_row, ok_shown, row_fits}
-use Rattle.rf233.proofs.Keys.{state_below}
-use Rattle.rf233.proofs.LineLaws.{front_behind, length_append, listed_behind, listed_is}
-use Rattle.rf233.proofs.OwnBuffers.{idle_is}
-use Rattle.rf233.proofs.Trees.{Possible, leaves, row_at, row_of}
-use Rattle.custody.proofs.Actions.{Of, fewer, full_line, moved_of, padded_same, sent_of}
-use Rattle.custody.proofs.BookLaws.{same as same_no}
+use Rattle.rf233.specs.OneBuffer.{in_turn}
+use Rattle.rf233.proofs.InTurn.{append_turn, back_turn}
 use Rattle.custody.proofs.Calls.{keeps}
-use Rattle.custody.proofs.Custody.{Inv, handed_free}
+use Rattle.custody.proofs.Custody.{Inv}
 use Rattle.custody.proofs.CustodyClaim.{newly}
 use Rattle.custody.proofs.Events.{returned_keeps}
-use Rattle.custody.proofs.Phases.{Rest}
-use Rattle.custody.proofs.Phases as phases
-
--- the buffer that a frame read has
-abbrev reading : Under → List Lent
-reading Idle = []
-reading Register = []
-reading (FrameRead x) = x ∷ []
-reading (FrameWrite x) = []
-
--- the receive buffers that the driver has: the one in a frame read, and the line
-abbrev in_turn : Buffers → List Lent
-in_turn r = reading r.under ++ line r
-
--- the queue of these, in which nothing was wrong
-abbrev right_queue : List Lent → Queue
-right_queue l = record { accepted = buffers l; wrong = false }
-
--- ---- a step that started with the buffers q in turn and the listeners k
-
-record Went (q : List Lent) (k : Clients) (o : Outcome) : Type 0 where
-  queue : stepped o.reply (right_queue q) ≡ right_queue (in_turn o.driver.buffers)
-  clients : o.driver.clients ≡ k
-
--- the transfer of a step alone
-record Took (q : List Lent) (k : Clients) (o : Outcome) : Type 0 where
-  queue : read_into o.reply.transfer (right_queue q) ≡ right_queue (in_turn o.driver.buffers)
-  clients : o.driver.clients ≡ k
-
-module _ (q : List Lent) (k : Clients) where
-  -- a register transfer is asked for, whatever is under way
-  register_took : (e : Driver) → in_turn e.buffers ≡ q → e.clients ≡ k → (n : TransferKind) (x y : ℕ) → eqb (kind_value n) 3 ≡ false
-      → (l : Actions) → Took q k (step_of (register_transfer n x y e) l)
-  unfolding register_transfer
-  register_took e s c n x y z l =
-      let b = e.buffers in
-      branch (λ t. Took q k (step_of t l)) _ _ _
-      (λ t.
-      let f = left (free_to_start b) b.spi_tx (left (free_to_start b && b.spi_tx) b.spi_rx t) in
-      let i = idle_is b.under (is_true (free_to_start b) f) in
-      record { queue = rw (z, ← s, i) refl; clients = c })
-      (λ t. record { queue = rw (← s) refl; clients = c })
-
-  asks : (e : Driver) → in_turn e.buffers ≡ q → e.clients ≡ k → (n : TransferKind) (x y : ℕ) → eqb (kind_value n) 3 ≡ false
-      → Went q k (step_of (register_transfer n x y e) (actions []))
-  asks e s c n x y z =
-      let t = register_took e s c n x y z (actions []) in
-      record { queue = t.queue; clients = t.clients }
-
-  rests : (e : Driver) → in_turn e.buffers ≡ q → e.clients ≡ k → Went q k (quiet e (actions []))
-  rests e s c = record { queue = rw (← s) refl; clients = c }
-
--- ---- a row's access, where no transfer is under way
-
-module _ (k : Clients) (e : Driver) (i : e.buffers.under ≡ Idle) (c : e.clients ≡ k) (l : Actions) where
-  abbrev Takes : Outcome → Type 0
-  Takes o = Took (line e.buffers) k o
-
-  idle_turn : in_turn e.buffers ≡ line e.buffers
-  idle_turn = rw i refl
-
-  read_took : (s : Option Lent) (n : ℕ) → front (line e.buffers) ≡ s → Takes (step_of (frame_read_into s n e) l)
-  unfolding frame_read_into
-  read_took None n f = record { queue = rw i refl; clients = c }
-  read_took (Some x) n f =
-      let b = e.buffers in
-      either (λ t. Takes (step_of t l)) _ _ _
-      (record {
-        queue = rw (front_behind (line b) x f) (rw (listed_behind b.rx_line, same_no x.buffer) refl);
-        clients = c;
-      })
-      (record { queue = rw i refl; clients = c })
-
-  write_took : (s : Option Lent) → Takes (step_of (frame_write_from s e) l)
-  unfolding frame_write_from
-  write_took None = record { queue = rw i refl; clients = c }
-  write_took (Some x) =
-      either (λ t. Takes (step_of t l)) _ _ _ (record { queue = refl; clients = c }) (record { queue = rw i refl; clients = c })
-
-  access_took : (x : Access) (a : Arrived) → Takes (accessed x a l e)
-  access_took none a = record { queue = rw i refl; clients = c }
-  access_took (reads r) a = register_took (line e.buffers) k e idle_turn c transfer.RegisterRead _ _ refl l
-  access_took (writes r v) a = register_took (line e.buffers) k e idle_turn c transfer.RegisterWrite _ _ refl l
-  access_took reads_length a = read_took (front (line e.buffers)) 0 refl
-  access_took reads_frame a = read_took (front (line e.buffers)) a.result refl
-  access_took writes_frame a = write_took e.buffers.tx_buf
-
--- ---- a row's actions
-
--- where the listener is there (r), a row keeps no buffer that it could hand back
-abbrev kept_quietly : Bool → List Shown → Bool
-kept_quietly r [] = true
-kept_quietly r (plain x ∷ more) = kept_quietly r more
-kept_quietly r (power_changed ∷ more) = kept_quietly r more
-kept_quietly r (config_done ∷ more) = kept_quietly r more
-kept_quietly r (sent_back ∷ more) = kept_quietly r more
-kept_quietly r (dropped_back ∷ more) = kept_quietly r more
-kept_quietly r (received_back ∷ more) = kept_quietly r more
-kept_quietly r (received_kept ∷ more) = not r && kept_quietly r more
-
-abbrev row_quiet : Bool → Row → Bool
-row_quiet r (does l x n s) = kept_quietly r s
-
--- where it is known whether the receive listener is there
-abbrev told_by : Bool → Client → Bool → Bool
-told_by r Transmit v = true
-told_by r Receive v = cond r v (not v)
-told_by r Config v = true
-told_by r Power v = true
-
-abbrev heard : Bool → Possible
-heard r (status_in l) v = true
-heard r length_fits v = true
-heard r (is_set f) v = true
-heard r (listens x) v = told_by r x v
-
-heard_so : (a : Arrived) (d : Driver) (c : Test) → T (heard d.clients.rx_client c (holds c a d))
-unfolding holds
-heard_so a d (status_in l) = tt
-heard_so a d length_fits = tt
-heard_so a d (is_set f) = tt
-heard_so a d (listens Transmit) = tt
-heard_so a d (listens Receive) = go d.clients.rx_client
-  where
-    go : (r : Bool) → T (cond r r (not r))
-    go true = tt
-    go false = tt
-heard_so a d (listens Config) = tt
-heard_so a d (listens Power) = tt
-
--- THE TEST OF THE ROWS
-rows_quiet : T (all_below (λ n. all λ r. leaves (heard r) (row_quiet r) (tree_at n)) 69)
-unfolding tree_at trees
-rows_quiet = tt
-
-row_is_quiet : (a : Arrived) (d : Driver) → T (row_quiet d.clients.rx_client (row_of a d))
-row_is_quiet a d =
-    let n = state_no d.state in
-    let r = d.clients.rx_client in
-    row_at (heard r) (row_quiet r) a d (heard_so a d) (tree_at n)
-    (all_at (λ r. leaves (heard r) (row_quiet r) (tree_at n))
-    (below_at (λ n. all λ r. leaves (heard r) (row_quiet r) (tree_at n)) 69 rows_quiet n (state_below d.state)) r)
-
--- an action that hands nothing back
-quietly : (q : Queue) (x : Action) → T (harmless x) → told q x ≡ q
-quietly q x h = grind arith
-
--- a row's actions, entered, leave the queue of the line that they leave; the row is of the driver d, b the record so far
-module _ (a : Arrived) (d : Driver) (r : Bool) (hears : T (some (line d.buffers)) → T r) where
-  tells : (sh : List Shown) (b : Buffers) (c : Facts) → Of a d c b → T (ok_shown sh c) → T (kept_quietly r sh)
-      → fold told (right_queue (line b)) (shown a d sh) ≡ right_queue (line (handed sh b))
-  tells [] b c f o h = refl
-  tells (plain x ∷ more) b c f o h =
-      ap (λ q. fold told q (shown a d more)) (quietly (right_queue (line b)) x (left (harmless x) _ o))
-      ∙ tells more b c f (right (harmless x) _ o) h
-  tells (power_changed ∷ more) b c f o h =
-      either (λ z. fold told (right_queue (line b)) z ≡ right_queue (line (handed more b))) _ _ _ (tells more b c f o h) (tells more b c f o h)
-  tells (config_done ∷ more) b c f o h =
-      either (λ z. fold told (right_queue (line b)) z ≡ right_queue (line (handed more b))) _ _ _ (tells more b c f o h) (tells more b c f o h)
-  tells (sent_back ∷ more) b c f o h = tells more (without_tx b) (holding false c.rx c) (sent_of a d f) (right c.tx _ o) h
-  tells (dropped_back ∷ more) b c f o h = tells more (without_tx b) (holding false c.rx c) (sent_of a d f) (right c.tx _ o) h
-  tells (received_back ∷ more) b c f o h =
-      let s = f.rx_of (left c.rx _ o) in
-      full_line (line b) s.0
-      (λ x e.
-      let named : buffer_in (front (line d.buffers)) ≡ x.buffer = ap (λ l. buffer_in (front l)) (sym s.1) ∙ ap buffer_in e in
-      let gone : handed_back x.buffer (right_queue (line b)) ≡ right_queue (line (without_front b)) =
-      rw (front_behind (line b) x e) (rw (listed_behind b.rx_line, same_no x.buffer) refl) in
-      ap (λ n. fold told (handed_back n (right_queue (line b))) (shown a d more)) named
-      ∙ (ap (λ q. fold told q (shown a d more)) gone
-      ∙ tells more (without_front b) (holding c.tx false c) (moved_of a d f refl) (right c.rx _ o) h))
-  tells (received_kept ∷ more) b c f o h =
-      let s = f.rx_of (left c.rx _ o) in
-      absurd (subst (λ v. T (not v)) (is_true r (hears (subst (λ l. T (some l)) s.1 s.0))) (left (not r) _ h))
-
--- ---- a completion
-
-entering_clients : (m : Next) (r : ℕ) (l : List Assignment) (d : Driver) → (entering m (assigning r l d)).clients ≡ d.clients
-entering_clients same r l d = refl
-entering_clients (to s) r l d = refl
-
-module _ (p : Page) (q : List Lent) (k : Clients) (hears : T (some q) → T k.rx_client) where
-  record Ready (d : Driver) : Type 0 where
-    rest : Rest p d
-    turn : line d.buffers ≡ q
-    clients : d.clients ≡ k
-
-  in_turn_is : (d : Driver) → Ready d → in_turn d.buffers ≡ q
-  in_turn_is d g = rw (idle_is d.buffers.under g.rest.free) g.turn
-
-  perform_went : (a : Arrived) (d : Driver) → Ready d → (r : Row) → T (ok_row (within 11 127 a.result) (of d) r) → T (row_quiet k.rx_client r)
-      → Went q k (perform r a d)
-  unfolding perform
-  perform_went a d g (does l x m sh) o h =
-      let e = entering m (assigning a.result l d) in
-      let c = with_buffers (handed sh e.buffers) e in
-      let y = actions (shown a e sh) in
-      let b = phases.entering_record m (assigning a.result l d) in
-      let turn : line e.buffers ≡ q = ap line b ∙ g.turn in
-      let s = ok_shown sh (settled l m (of d)) in
-      let few = left (leb (length sh) 6 && s) _ o in
-      let six = leb→le (length sh) 6 (left (leb (length sh) 6) s few) in
-      let there : T (ok_shown sh (of e)) =
-      subst (λ z. T (ok_shown sh z)) (sym (settled_is a.result l m d)) (right (leb (length sh) 6) s few) in
-      let free = handed_free sh e.buffers (ap free_to_start b ∙ g.rest.free) in
-      let t = access_took k c (idle_is c.buffers.under free) (entering_clients m a.result l d ∙ g.clients) y x a in
-      let o = accessed x a y c in
-      let shows : o.reply.actions ≡ y = every_access (λ (o : Outcome). o.reply.actions ≡ y) a y c (λ e t. refl) x in
-      let told_so : fold told (right_queue q) y.items ≡ right_queue (line c.buffers) =
-      padded_same told (λ q. refl) 6 6 (shown a e sh) (right_queue q) (le_trans (fewer a e sh) six)
-      ∙ (ap (λ l. fold told (right_queue l) (shown a e sh)) (sym turn)
-      ∙ tells a e k.rx_client (λ f. hears (subst (λ l. T (some l)) turn f)) sh e.buffers (of e)
-      (record { tx_of = λ y. (y, refl); rx_of = λ y. (y, refl) }) there h) in
-      record {
-        queue =
-            ap (λ (w : Actions). read_into o.reply.transfer (fold told (right_queue q) w.items)) shows
-            ∙ (ap (read_into o.reply.transfer) told_so ∙ t.queue);
-        clients = t.clients;
-      }
-
-  own_went : (a : Arrived) (d : Driver) → Ready d → Went q k (own_case a d)
-  unfolding case_of
-  own_went a d g =
-      perform_went a d g (row_of a d)
-      (subst (λ f. T (ok_row f (of d) (row_of a d))) (phases.length_known a d) (row_fits a d g.rest.inv.fitted (phases.rests p d g.rest)))
-      (subst (λ (k : Clients). T (row_quiet k.rx_client (row_of a d))) g.clients (row_is_quiet a d))
-
-  fires : (d : Driver) → in_turn d.buffers ≡ q → d.clients ≡ k → Went q k (handle_interrupt d)
-  unfolding handle_interrupt
-  fires d s c =
-      either (Went q k) _ _ _
-      (either (Went q k) _ _ _ (asks q k _ s c transfer.RegisterWrite _ _ refl) (asks q k _ s c transfer.RegisterRead _ _ refl))
-      (rests q k _ s c)
-
-  ready_ends : Ends (Went q k) Ready
-  ready_ends =
-      record {
-        fires = λ d g. fires d (in_turn_is d g) g.clients;
-        sends = λ d g s. asks q k _ (in_turn_is d g) g.clients transfer.RegisterRead _ _ refl;
-        waits = λ d g. asks q k _ (in_turn_is d g) g.clients transfer.RegisterRead _ _ refl;
-        commits = λ d g.
-            commit_by (Went q k) d (asks q k _ (in_turn_is d g) g.clients transfer.RegisterWrite _ _ refl)
-            (rests q k d (in_turn_is d g) g.clients);
-        case = own_went;
-      }
-
-  ready_kept : Kept Ready
-  ready_kept =
-      let kept = phases.kept p in
-      record {
-        flags = λ f d s h g. record { rest = kept.flags f d s h g.rest; turn = g.turn; clients = g.clients };
-        moves = λ a d g. record { rest = kept.moves a d g.rest; turn = g.turn; clients = g.clients };
-        reads = λ d h g. record { rest = kept.reads d h g.rest; turn = g.turn; clients = g.clients };
-      }
-
-  completes : (a : Arrived) (d : Driver) → Ready (transfer_over d) → Went q k (completed a d)
-  completes a d g = completion_by (Went q k) Ready ready_kept ready_ends a d g
-
--- the buffers in turn are in the line once the transfer is over
-back_in_turn : (r : Buffers) → receive_count r ≤ line_room → line (buffers_back r.under r) ≡ in_turn r
-back_in_turn r h = go r.under h
-  where
-    go : (u : Under) → length (line r) + one (is_some (rx_under_way u)) ≤ line_room → line (buffers_back u r) ≡ reading u ++ line r
-    go Idle h = refl
-    go Register h = refl
-    go (FrameRead x) h = listed_is (x ∷ line r) (omega arith)
-    go (FrameWrite x) h = refl
+use Rattle.custody.proofs.InOrder.{Ready, Went, asks, completes, rests, right_queue}
 
 -- ---- a list of calls
 
@@ -399,10 +111,7 @@ buffers_append (x ∷ l) m = ap (λ k. x.buffer ∷ k) (buffers_append l m)
 
 append_in_turn : (r : Buffers) (x : Lent) → leb line_room (receive_count r) ≡ false
     → buffers (in_turn (with_line (append (line r) x) r)) ≡ buffers (in_turn r) ++ (x.buffer ∷ [])
-append_in_turn r x f =
-    let l = line r in
-    rw (listed_is (append l x) (omega (arith, length_append l x, leb-false line_room (receive_count r) f)))
-    (ap buffers (sym (append_assoc (reading r.under) l (x ∷ []))) ∙ buffers_append (in_turn r) (x ∷ []))
+append_in_turn r x f = ap buffers (append_turn r x f) ∙ buffers_append (in_turn r) (x ∷ [])
 
 -- a refusal leaves the record and the listeners
 left_buffers : (w : Bool) (d : Driver) → (cond w (flagged sleep_pending false d) d).buffers ≡ d.buffers
@@ -513,7 +222,7 @@ module _ (p : Page) (s : Seen) (d : Driver) (v : Inv p d) (g : Good s d) where
   completion xs a i =
       let r = d.buffers in
       let ready : Ready (ended p) (in_turn r) d.clients (hears g) (transfer_over d) =
-      record { rest = returned_keeps p d v i; turn = back_in_turn r v.match.room; clients = refl } in
+      record { rest = returned_keeps p d v i; turn = back_turn r v.match.room; clients = refl } in
       goes (complete xs) (completed a d) (rw (done_completed a d) refl) (completes (ended p) (in_turn r) d.clients (hears g) a d ready)
       (λ t. absurd t)
 

@@ -14,7 +14,7 @@ use Rattle.rf233.specs.Line.{line, append}
 use Rattle.rf233.specs.Record.{lent}
 use Rattle.rf233.specs.declared.driver.Buffers.{Buffers}
 use Rattle.rf233.specs.declared.driver.Clients.{Clients}
-use Rattle.std.specs.Prelude.{Bool, Option, Some}
+use Rattle.std.specs.Prelude.{Bool, Some}
 use Rattle.rf233.specs.Described.{described}
 use Rattle.rf233.specs.Guard.{Called, refusing, stepping, pool_fault}
 use Rattle.rf233.specs.Interrupt.{handle_interrupt}
@@ -144,7 +144,6 @@ module _ (d : Driver) (p : List ℕ) (P : Call → Called → Type 0) (of : OfCa
   -- a call that takes no pool
   abbrev Alone : Call → Outcome → Type 0
   Alone c o = P c (with_pool o p)
-
 
   of_start : P start (start_call d p)
   unfolding start_call begin_start

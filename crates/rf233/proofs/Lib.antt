@@ -23,6 +23,8 @@ pub mod Twice
 pub mod Regrouped
 pub mod FullPlace
 pub mod EveryCall
+pub mod InTurn
+pub mod OneBuffer
 pub mod Refusal
 pub mod StartupStages
 pub mod StartupRun

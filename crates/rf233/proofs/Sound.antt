@@ -9,8 +9,9 @@ use borrow.Author.Tests.{leb-true, ltb-false, eqb-true, not-false}
 use mathlib.Core.List.{List}
 use lib.ListN.{length}
 use Rattle.rf233.specs.Pool.{read_buffer, write_length, read_length, shorter}
-use Rattle.rf233.specs.Line.{line, any_of}
-use Rattle.rf233.specs.Described.{is_above, slot_above, under_slot, client_above, recorded_twice, own_nowhere, length_bad, described}
+use Rattle.rf233.specs.Line.{line_room, line, any_of}
+use Rattle.rf233.specs.Described.{is_above, slot_above, under_slot, client_above, recorded_twice, own_nowhere, length_bad, held_besides, crowded, described}
+use Rattle.rf233.specs.Record.{receive_count}
 use Rattle.rf233.specs.Choice.{within}
 use Rattle.rf233.specs.Guard.{pool_fault}
 use Rattle.rf233.specs.declared.driver.Buffers.{Buffers}
@@ -71,3 +72,12 @@ shorter_fits d e =
     let k = within_high 2 whole now
     (not-false (within 2 whole now) (none_left (not (within 2 whole now)) _ (none_right (not (within 129 160 whole)) _ l))) in
     short r.under r (omega arith)
+
+-- the driver has no more receive buffers than there is place for
+pub uncrowded : (d : Driver) → described d ≡ false → receive_count d.buffers ≤ line_room
+unfolding described
+uncrowded d e =
+    let r = d.buffers in
+    let clauses = none_right (own_nowhere r) _ (none_right (recorded_twice r) _ e) in
+    let held = none_right (length_bad r) _ (none_right (client_above r) _ clauses) in
+    omega (arith, ltb-false line_room (receive_count r) (none_left (crowded r) _ (none_right (held_besides r) _ held)))

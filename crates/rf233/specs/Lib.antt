@@ -32,5 +32,6 @@ pub mod Kernel
 pub mod Place
 pub mod Calls
 pub mod Refusal
+pub mod OneBuffer
 pub mod StartupClaim
 pub mod CommitClaim
