@@ -75,7 +75,8 @@ module _ (q : List Lent) (k : Clients) where
   abbrev Starts : Started → Type 0
   Starts s = Names q k (begun s.answer) s.driver
 
-  register_names : (e : Driver) → e.clients ≡ k → (n : TransferKind) (x y : ℕ) → eqb (kind_value n) 3 ≡ false → Starts (register_transfer n x y e)
+  register_names : (e : Driver) → e.clients ≡ k → (n : TransferKind) (x y : ℕ) → eqb (kind_value n) 3 ≡ false
+      → Starts (register_transfer n x y e)
   unfolding register_transfer
   register_names e c n x y z = either Starts _ _ _ (record { first = rw z refl; clients = c }) (record { first = refl; clients = c })
 
@@ -185,9 +186,11 @@ module _ (a : Arrived) (d : Driver) (r : Bool) (hears : T (some (line d.buffers)
       ap (λ q. fold told q (shown a d more)) (quietly (right_queue (line b)) x (left (harmless x) _ o))
       ∙ tells more b c f (right (harmless x) _ o) h
   tells (power_changed ∷ more) b c f o h =
-      either (λ z. fold told (right_queue (line b)) z ≡ right_queue (line (handed more b))) _ _ _ (tells more b c f o h) (tells more b c f o h)
+      let t = tells more b c f o h in
+      either (λ z. fold told (right_queue (line b)) z ≡ right_queue (line (handed more b))) _ _ _ t t
   tells (config_done ∷ more) b c f o h =
-      either (λ z. fold told (right_queue (line b)) z ≡ right_queue (line (handed more b))) _ _ _ (tells more b c f o h) (tells more b c f o h)
+      let t = tells more b c f o h in
+      either (λ z. fold told (right_queue (line b)) z ≡ right_queue (line (handed more b))) _ _ _ t t
   tells (sent_back ∷ more) b c f o h = tells more (without_tx b) (holding false c.rx c) (sent_of a d f) (right c.tx _ o) h
   tells (dropped_back ∷ more) b c f o h = tells more (without_tx b) (holding false c.rx c) (sent_of a d f) (right c.tx _ o) h
   tells (received_back ∷ more) b c f o h =
@@ -219,8 +222,8 @@ module _ (p : Page) (q : List Lent) (k : Clients) (hears : T (some q) → T k.rx
   in_turn_is : (d : Driver) → Ready d → in_turn d.buffers ≡ q
   in_turn_is d g = rw (idle_is d.buffers.under g.rest.free) g.turn
 
-  perform_went : (a : Arrived) (d : Driver) → Ready d → (r : Row) → T (ok_row (within 11 127 a.result) (of d) r) → T (row_quiet k.rx_client r)
-      → Went q k (perform r a d)
+  perform_went : (a : Arrived) (d : Driver) → Ready d → (r : Row) → T (ok_row (within 11 127 a.result) (of d) r)
+      → T (row_quiet k.rx_client r) → Went q k (perform r a d)
   unfolding perform
   perform_went a d g (does l x m sh) o h =
       let e = entering m (assigning a.result l d) in
@@ -246,7 +249,8 @@ module _ (p : Page) (q : List Lent) (k : Clients) (hears : T (some q) → T k.rx
       record {
         queue =
             ap (λ (w : Actions). read_into o.reply.transfer (fold told (right_queue q) w.items)) shows
-            ∙ (ap (read_into o.reply.transfer) told_so ∙ (rw idle at t.first ∙ ap right_queue (sym (access_turn c idle x a y ∙ rw idle refl))));
+            ∙ (ap (read_into o.reply.transfer) told_so
+            ∙ (rw idle at t.first ∙ ap right_queue (sym (access_turn c idle x a y ∙ rw idle refl))));
         clients = t.clients;
       }
 

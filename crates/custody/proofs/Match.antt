@@ -442,7 +442,8 @@ module _ (r : Buffers) (k : Page) (m : Match r k) where
   lends_tx x n h e u f =
       let t = empty_is r.tx_buf e in
       lends_at (lent_tx x) (rw t at m) h (rw t at (free x.buffer f))
-      (full_is transmit_place 0 false (filled_none transmit_place k.places 19 (λ b i. rw t at (fitted b i).1)) ((took r.under).0 ∙ u)) m.room
+      (full_is transmit_place 0 false (filled_none transmit_place k.places 19 (λ b i. rw t at (fitted b i).1)) ((took r.under).0 ∙ u))
+      m.room
 
   pub lends_rx : (x : Lent) → x.buffer < 16 → leb line_room (receive_count r) ≡ false → record_has r x.buffer ≡ false
       → Match (with_line (append (line r) x) r) (brought x.buffer receive_place k)

@@ -1,6 +1,6 @@
--- `oldest_first` of specs/OldestFirst.antt. At each point the queue that was seen is the driver's receive buffers in turn, as long as none was
--- lent without a listener (`Good`): a step keeps that (InOrder.antt), and so does what a call lays down. Beside it goes the invariant of
--- Custody.antt. Assumes nothing.
+-- `oldest_first` of specs/OldestFirst.antt. At each point the queue that was seen is the driver's receive buffers in turn, as long as none
+-- was lent without a listener (`Good`): a step keeps that (InOrder.antt), and so does what a call lays down. Beside it goes the invariant
+-- of Custody.antt. Assumes nothing.
 use Rattle.std.proofs.Common.{◌≡◌, ℕ, Bool, true, false, not, ◌&&◌, ◌||◌, T, eqb, leb, cond, List, [], ◌∷◌, ◌++◌}
 use Rattle.std.proofs.Common.{sym, refl, ap, ◌∙◌, subst, arith}
 use Rattle.std.specs.List.{fold}
@@ -146,7 +146,8 @@ module _ (p : Page) (s : Seen) (d : Driver) (v : Inv p d) (g : Good s d) where
     quiet : T (called c s).lent → T (called c s).listens
     none : (called c s).lent ≡ false → (called c s).queue.accepted ≡ []
 
-  as_before : (c : Call) → called c s ≡ s → laid c d.buffers ≡ d.buffers → (attending c d.clients).rx_client ≡ d.clients.rx_client → Begins c
+  as_before : (c : Call) → called c s ≡ s → laid c d.buffers ≡ d.buffers → (attending c d.clients).rx_client ≡ d.clients.rx_client
+      → Begins c
   as_before c e b k =
       record {
         queue = rw (e, b) g.queue;

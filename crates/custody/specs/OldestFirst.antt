@@ -81,8 +81,8 @@ read_into (Some t) q = cond (kind_value t.kind == 3) (record q { wrong = q.wrong
 abbrev pub stepped : Reply → Queue → Queue
 stepped y q = read_into y.transfer (fold told q y.actions.items)
 
--- what was seen: the queue; whether the receive listener is there, and a receive buffer was lent; whether one was lent without the listener,
--- or the listener made absent after
+-- what was seen: the queue; whether the receive listener is there, and a receive buffer was lent; whether one was lent without the
+-- listener, or the listener made absent after
 pub record Seen : Type 0 where
   pub queue : Queue
   pub listens : Bool

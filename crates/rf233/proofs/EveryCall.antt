@@ -1,5 +1,6 @@
 -- One walk through the definitions of the calls: what holds of refusals, of register transfers and quiet steps without an action, of a
--- reset and of completions (`OfCalls`) holds of every call (`every_call`), whatever the driver value, the arguments and the pool. Of the driver with which such a step begins it is known what the call laid down (`Lays`). Assumes nothing.
+-- reset and of completions (`OfCalls`) holds of every call (`every_call`), whatever the driver value, the arguments and the pool. Of the
+-- driver with which such a step begins it is known what the call laid down (`Lays`). Assumes nothing.
 use Rattle.std.proofs.Common.{◌≡◌, ℕ, ◌+◌, true, false, not, T, eqb, leb, List, [], ◌∷◌, set, refl}
 use borrow.Author.Tests.{not-false}
 use Rattle.laws.proofs.Logic.{is_false}
@@ -116,9 +117,9 @@ pub record Lays (c : Call) (d e : Driver) : Type 0 where
   pub clients : e.clients ≡ attending c d.clients
   pub room : T (lending c) → rx_full d ≡ false
 
-lays : {c : Call} {d e : Driver} → e.buffers ≡ laid c d.buffers → e.clients ≡ attending c d.clients → (T (lending c) → rx_full d ≡ false)
-    → Lays c d e
-lays b k r = record { buffers = b; clients = k; room = r }
+-- where it does not lend one
+lays : {c : Call} {d e : Driver} → e.buffers ≡ laid c d.buffers → e.clients ≡ attending c d.clients → lending c ≡ false → Lays c d e
+lays b k r = record { buffers = b; clients = k; room = λ t. absurd (rw r at t) }
 
 -- on this driver, with this pool
 pub record OfCalls (d : Driver) (p : List ℕ) (P : Call → Called → Type 0) : Type 0 where
@@ -149,7 +150,8 @@ module _ (d : Driver) (p : List ℕ) (P : Call → Called → Type 0) (of : OfCa
   unfolding start_call begin_start
   of_start =
       either (P start) _ _ _ (of.refuses start 12 d tt refl refl)
-      (either (P start) _ _ _ (either (Steps start) _ _ _ (of.reads start _ _ _ _ (lays refl refl (λ t. absurd t))) (of.reads start _ _ _ _ (lays refl refl (λ t. absurd t))))
+      (either (P start) _ _ _
+      (either (Steps start) _ _ _ (of.reads start _ _ _ _ (lays refl refl refl)) (of.reads start _ _ _ _ (lays refl refl refl)))
       (of.refuses start 6 _ tt refl refl))
 
   of_stop : P stop (stop_call d p)
@@ -157,20 +159,24 @@ module _ (d : Driver) (p : List ℕ) (P : Call → Called → Type 0) (of : OfCa
   of_stop =
       either (P stop) _ _ _ (of.refuses stop 12 d tt refl refl)
       (either (P stop) _ _ _ (of.refuses stop 6 d tt refl refl)
-      (either (Steps stop) _ _ _ (of.writes stop _ _ _ _ (lays refl refl (λ t. absurd t))) (of.rests stop _ _ (lays refl refl (λ t. absurd t)))))
+      (either (Steps stop) _ _ _ (of.writes stop _ _ _ _ (lays refl refl refl)) (of.rests stop _ _ (lays refl refl refl))))
 
   of_commit : P commit (commit_call d p)
   unfolding commit_call begin_commit
   of_commit =
       either (P commit) _ _ _ (of.refuses commit 12 d tt refl refl)
-      (either (Steps commit) _ _ _ (of.rests commit d _ (lays refl refl (λ t. absurd t)))
-      (either (Steps commit) _ _ _ (commit_by (Steps commit) _ (of.writes commit _ _ _ _ (lays refl refl (λ t. absurd t))) (of.rests commit _ _ (lays refl refl (λ t. absurd t)))) (of.rests commit _ _ (lays refl refl (λ t. absurd t)))))
+      (either (Steps commit) _ _ _ (of.rests commit d _ (lays refl refl refl))
+      (either (Steps commit) _ _ _
+      (commit_by (Steps commit) _ (of.writes commit _ _ _ _ (lays refl refl refl)) (of.rests commit _ _ (lays refl refl refl)))
+      (of.rests commit _ _ (lays refl refl refl))))
 
   of_fired : P fire (fired_call d p)
   unfolding fired_call handle_interrupt
   of_fired =
       either (P fire) _ _ _ (of.refuses fire 12 d tt refl refl)
-      (either (Steps fire) _ _ _ (either (Steps fire) _ _ _ (of.writes fire _ _ _ _ (lays refl refl (λ t. absurd t))) (of.reads fire _ _ _ _ (lays refl refl (λ t. absurd t)))) (of.rests fire _ _ (lays refl refl (λ t. absurd t))))
+      (either (Steps fire) _ _ _
+      (either (Steps fire) _ _ _ (of.writes fire _ _ _ _ (lays refl refl refl)) (of.reads fire _ _ _ _ (lays refl refl refl)))
+      (of.rests fire _ _ (lays refl refl refl)))
 
   of_completion : (xs : List ℕ) → P (complete xs) (completion_call d xs p)
   unfolding completion_call completing
@@ -193,7 +199,8 @@ module _ (d : Driver) (p : List ℕ) (P : Call → Called → Type 0) (of : OfCa
       (either (P c) _ _ _ (of.refuses c 3 d tt refl refl)
       (either (P c) _ _ _ (of.refuses c 4 d tt refl refl)
       (either (P c) _ _ _ (of.refuses c 8 d tt refl refl)
-      (either (λ o. P c (stepping o (set p (start_of b + 1) (n + 2)))) _ _ _ (of.reads c _ _ _ _ (lays refl refl (λ t. absurd t))) (of.rests c _ _ (lays refl refl (λ t. absurd t))))))))))
+      (either (λ o. P c (stepping o (set p (start_of b + 1) (n + 2)))) _ _ _ (of.reads c _ _ _ _ (lays refl refl refl))
+      (of.rests c _ _ (lays refl refl refl)))))))))
 
   of_receive_buffer : (b l : ℕ) → Alone (receive_buffer b l) (receive_buffer_call d b l)
   unfolding receive_buffer_call
@@ -202,7 +209,8 @@ module _ (d : Driver) (p : List ℕ) (P : Call → Called → Type 0) (of : OfCa
       either (Alone c) _ _ _ (of.refuses c 7 d tt refl refl)
       (either (Alone c) _ _ _ (of.refuses c 9 d tt refl refl)
       (branch (Alone c) (rx_full d) _ _ (λ t. of.refuses c 10 d tt refl refl)
-      (λ t. either (Alone c) _ _ _ (of.refuses c 8 d tt refl refl) (of.rests c _ _ (lays refl refl (λ r. is_false (rx_full d) t))))))
+      (λ t. either (Alone c) _ _ _ (of.refuses c 8 d tt refl refl)
+      (of.rests c _ _ (record { buffers = refl; clients = refl; room = λ r. is_false (rx_full d) t })))))
 
   pub every_call : (c : Call) → P c (made d c p)
   unfolding made reset_call set_power set_channel
@@ -210,14 +218,17 @@ module _ (d : Driver) (p : List ℕ) (P : Call → Called → Type 0) (of : OfCa
   every_call stop = of_stop
   every_call commit = of_commit
   every_call fire = of_fired
-  every_call query = of.rests query d _ (lays refl refl (λ t. absurd t))
+  every_call query = of.rests query d _ (lays refl refl refl)
   every_call (complete xs) = of_completion xs
   every_call (transmit b l n) = of_transmit b l n
   every_call (receive_buffer b l) = of_receive_buffer b l
-  every_call (reset v) = either (Alone (reset v)) _ _ _ (of.resets v _ _ (lays refl refl (λ t. absurd t))) (of.refuses (reset v) 14 d tt refl refl)
-  every_call (address a) = of.rests (address a) _ _ (lays refl refl (λ t. absurd t))
-  every_call (pan a) = of.rests (pan a) _ _ (lays refl refl (λ t. absurd t))
-  every_call (channel c) = either (Alone (channel c)) _ _ _ (of.rests (channel c) _ _ (lays refl refl (λ t. absurd t))) (of.refuses (channel c) 5 d tt refl refl)
-  every_call (address_long l) = of.rests (address_long l) _ _ (lays refl refl (λ t. absurd t))
-  every_call (power t) = either (Alone (power t)) _ _ _ (of.rests (power t) _ _ (lays refl refl (λ t. absurd t))) (of.refuses (power t) 5 d tt refl refl)
-  every_call (listener x v) = of.rests (listener x v) _ _ (lays refl refl (λ t. absurd t))
+  every_call (reset v) =
+      either (Alone (reset v)) _ _ _ (of.resets v _ _ (lays refl refl refl)) (of.refuses (reset v) 14 d tt refl refl)
+  every_call (address a) = of.rests (address a) _ _ (lays refl refl refl)
+  every_call (pan a) = of.rests (pan a) _ _ (lays refl refl refl)
+  every_call (channel c) =
+      either (Alone (channel c)) _ _ _ (of.rests (channel c) _ _ (lays refl refl refl)) (of.refuses (channel c) 5 d tt refl refl)
+  every_call (address_long l) = of.rests (address_long l) _ _ (lays refl refl refl)
+  every_call (power t) =
+      either (Alone (power t)) _ _ _ (of.rests (power t) _ _ (lays refl refl refl)) (of.refuses (power t) 5 d tt refl refl)
+  every_call (listener x v) = of.rests (listener x v) _ _ (lays refl refl refl)

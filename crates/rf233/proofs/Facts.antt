@@ -56,8 +56,8 @@ frame_no_lem Register = refl
 frame_no_lem (FrameRead x) = refl
 frame_no_lem (FrameWrite x) = refl
 
--- the control facts: the kind of transfer under way, the state's number, whether there is a buffer in the transmit place and one in the line,
--- whether the driver is transmitting and whether it handles an interrupt
+-- the control facts: the kind of transfer under way, the state's number, whether there is a buffer in the transmit place and one in the
+-- line, whether the driver is transmitting and whether it handles an interrupt
 pub record Facts : Type 0 where
   pub transfer : Kind
   pub state : ℕ

@@ -21,7 +21,8 @@ use Rattle.rf233.specs.declared.action.Action.TheVariants as action
 use Rattle.rf233.specs.declared.arrived.Arrived.{Arrived}
 use Rattle.rf233.specs.declared.driver.Driver.{Driver}
 use Rattle.laws.proofs.Logic.{left, right, pair, or_left, imp, apply, all, all_at, all_below, below_at}
-use Rattle.rf233.proofs.Facts.{Kind, kind, is_none, frame_of, Facts, facts, of, under, at, holding, flags, settled, prepared, back, Fuller, fuller}
+use Rattle.rf233.proofs.Facts.{Kind, kind, is_none, frame_of, Facts, facts, of, under, at, holding, flags, settled, prepared, back}
+use Rattle.rf233.proofs.Facts.{Fuller, fuller}
 use Rattle.rf233.proofs.Facts.Kind.{nothing, access, reading, writing}
 use Rattle.rf233.proofs.Trees.{leaves, row_at, row_of, known, known_so}
 
@@ -150,8 +151,8 @@ ok_shown (dropped_back ∷ more) c = c.tx && ok_shown more (holding false c.rx c
 ok_shown (received_back ∷ more) c = c.rx && ok_shown more (holding c.tx false c)
 ok_shown (received_kept ∷ more) c = c.rx && ok_shown more (holding c.tx false c)
 
--- an access carried out while no transfer is under way leaves what fits, as if there were no more than one buffer in the line; f: the length
--- is in its range; c: the facts before it
+-- an access carried out while no transfer is under way leaves what fits, as if there were no more than one buffer in the line; f: the
+-- length is in its range; c: the facts before it
 abbrev pub ok_access : Access → Bool → Facts → Bool
 ok_access none f c = fit c
 ok_access (reads x) f c = fit (under access c)

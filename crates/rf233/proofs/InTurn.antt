@@ -44,7 +44,9 @@ unfolding register_transfer
 register_turn n x y e =
     let b = e.buffers in
     branch (λ s. turn_of s ≡ in_turn b) _ _ _
-    (λ t. rw (idle_is b.under (is_true (free_to_start b) (left (free_to_start b) b.spi_tx (left (free_to_start b && b.spi_tx) b.spi_rx t)))) refl)
+    (λ t.
+    let f = left (free_to_start b) b.spi_tx (left (free_to_start b && b.spi_tx) b.spi_rx t) in
+    rw (idle_is b.under (is_true (free_to_start b) f)) refl)
     (λ t. refl)
 
 module _ (e : Driver) (i : e.buffers.under ≡ Idle) where

@@ -199,7 +199,8 @@ module _ (xs : List ℕ) where
   back_idle : (d : Driver) → (transfer_over d).buffers.under ≡ Idle
   back_idle d = grind arith
 
-  completion_moves : (a : Arrived) (d : Driver) → described d ≡ false → Completed (in_turn d.buffers) (in_turn (completed a d).driver.buffers)
+  completion_moves : (a : Arrived) (d : Driver) → described d ≡ false
+      → Completed (in_turn d.buffers) (in_turn (completed a d).driver.buffers)
   completion_moves a d f =
       let q = in_turn d.buffers in
       completion_by (Leaves q) (Ready q) (ready_kept q) (ready_ends q) a d

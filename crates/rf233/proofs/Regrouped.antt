@@ -13,7 +13,9 @@ use Rattle.rf233.specs.Line.{line_room, line, buffers}
 use Rattle.rf233.specs.Line as lines
 use Rattle.rf233.specs.Record.{one, tx_under_way, rx_under_way}
 use Rattle.rf233.specs.State.{state_no, state_frame}
-use Rattle.rf233.specs.Described.{is_above, slot_above, under_slot, named_in, meets, repeats, receive_length_bad, own_wrong, tx_length_bad, rx_length_bad, length_bad, held_besides, crowded, frame_no, frame_unfit, frame_bad, buffer_missing, described, by_place}
+use Rattle.rf233.specs.Described.{is_above, slot_above, under_slot, named_in, meets, repeats, receive_length_bad, receive_bad, own_wrong}
+use Rattle.rf233.specs.Described.{tx_length_bad, rx_length_bad, length_bad, held_besides, crowded, frame_no, frame_unfit, frame_bad}
+use Rattle.rf233.specs.Described.{buffer_missing, described, by_place}
 use Rattle.rf233.specs.Choice.{within}
 use Rattle.rf233.specs.declared.driver.Buffers.{Buffers}
 use Rattle.rf233.specs.declared.driver.Driver.{Driver}
@@ -89,9 +91,10 @@ in_clauses =
 
 abbrev in_places : Tests
 in_places =
-    any_of (test 0) (any_of (test 1) (any_of (any_of (test 2) (test 3)) (any_of (any_of (any_of (test 4) (test 5)) (any_of (test 7) (test 6)))
-    (any_of (any_of (test 8)
-    (any_of (test 9) (any_of (test 10) (any_of (test 11) (any_of (test 12) (any_of (test 13) (any_of (test 14) (any_of (test 15) (test 16)))))))))
+    any_of (test 0) (any_of (test 1) (any_of (any_of (test 2) (test 3))
+    (any_of (any_of (any_of (test 4) (test 5)) (any_of (test 7) (test 6)))
+    (any_of (any_of (test 8) (any_of (test 9) (any_of (test 10) (any_of (test 11)
+    (any_of (test 12) (any_of (test 13) (any_of (test 14) (any_of (test 15) (test 16)))))))))
     (any_of (test 17) (test 18))))))
 
 module _ (d : Driver) where

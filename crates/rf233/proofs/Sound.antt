@@ -10,7 +10,8 @@ use mathlib.Core.List.{List}
 use lib.ListN.{length}
 use Rattle.rf233.specs.Pool.{read_buffer, write_length, read_length, shorter}
 use Rattle.rf233.specs.Line.{line_room, line, any_of}
-use Rattle.rf233.specs.Described.{is_above, slot_above, under_slot, client_above, recorded_twice, own_nowhere, length_bad, held_besides, crowded, described}
+use Rattle.rf233.specs.Described.{is_above, slot_above, under_slot, client_above, recorded_twice, own_nowhere, length_bad, held_besides}
+use Rattle.rf233.specs.Described.{crowded, described}
 use Rattle.rf233.specs.Record.{receive_count}
 use Rattle.rf233.specs.Choice.{within}
 use Rattle.rf233.specs.Guard.{pool_fault}

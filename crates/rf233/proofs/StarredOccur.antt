@@ -45,7 +45,8 @@ example s w h t b x y u =
     let new = new_driver 129 26 in
     let frames = set_client listener.Receive (set_client listener.Transmit new true) true in
     let listening = set_client listener.Power (set_client listener.Config frames true) true in
-    let held = with_under u (with_tx_len 10 (with_line y (with_tx x (with_spi_buf_len 2 (with_spi_buf b (with_registers t new.buffers)))))) in
+    let own = with_spi_buf_len 2 (with_spi_buf b (with_registers t new.buffers)) in
+    let held = with_under u (with_tx_len 10 (with_line y (with_tx x own))) in
     flagged radio_on true (flagged interrupt_handling h (flagged config_pending w
     (with_state s (with_buffers held (with_settings (with_pan 0x1234 (with_addr 0xABCD new.settings)) listening)))))
 

@@ -58,8 +58,8 @@ abbrev pub rx_length_bad : Option Lent → Bool
 rx_length_bad None = false
 rx_length_bad (Some x) = receive_length_bad x
 
--- clause: a length out of bounds. Of spi_buf 129 to 160, and its present length 2 to that; of a transmit buffer and each receive buffer, held
--- or under way. A frame transfer's own two lengths are these very values, so nothing more is to be asked of them.
+-- clause: a length out of bounds. Of spi_buf 129 to 160, and its present length 2 to that; of a transmit buffer and each receive buffer,
+-- held or under way. A frame transfer's own two lengths are these very values, so nothing more is to be asked of them.
 abbrev pub length_bad : Buffers → Bool
 length_bad r =
     not (within 129 160 r.spi_buf_whole)
@@ -148,5 +148,6 @@ by_place d =
     let r = d.buffers in
     let n = state_no d.state in
     not (within 129 160 r.spi_buf_whole) || (not (within 2 r.spi_buf_whole r.spi_buf_len)
-    || ((slot_above r.tx_buf || tx_length_bad r.tx_buf r.tx_len) || (line_bad (line r) r.tx_buf || ((own_wrong r.under r || frame_bad r.under r.tx_buf (line r) r.tx_len d.flags.interrupt_handling)
+    || ((slot_above r.tx_buf || tx_length_bad r.tx_buf r.tx_len) || (line_bad (line r) r.tx_buf
+    || ((own_wrong r.under r || frame_bad r.under r.tx_buf (line r) r.tx_len d.flags.interrupt_handling)
     || (not (eqb (frame_no r.under) (state_frame n)) || buffer_missing r n)))))
