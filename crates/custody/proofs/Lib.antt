@@ -14,3 +14,4 @@ pub mod Shown
 pub mod Yield
 pub mod InOrder
 pub mod OldestFirst
+pub mod OldestOccurs
