@@ -1,29 +1,36 @@
-//! `generate`: prints a script that stays inside the domain, or runs many of them and
-//! prints what they met.
+//! `generate`: prints a script that stays inside the domain, or one that leaves it, or runs
+//! many that stay inside and prints what they met.
 
 use std::io::{self, Write};
 use std::process::ExitCode;
 
 use oracle::coverage::Coverage;
-use oracle::generator::{Wish, script};
+use oracle::generator::{Wish, beyond, script};
 use oracle::line::text;
+use oracle::model;
 use oracle::options::Options;
 use oracle::progress::Progress;
 use oracle::session::Session;
 
-const USAGE: &str = "usage: generate --seed S --lines N [--without-lending]
+const USAGE: &str = "usage: generate --seed S --lines N [--without-lending | --beyond]
        generate --coverage --seeds N --lines M [--without-lending]";
 
 struct Arguments {
     coverage: bool,
+    beyond: bool,
     seeds: u64,
     wish: Wish,
 }
 
 fn main() -> ExitCode {
-    let done = arguments().and_then(|arguments| match arguments.coverage {
-        true => covered(&arguments),
-        false => printed(arguments.wish),
+    let done = arguments().and_then(|arguments| {
+        if arguments.coverage {
+            covered(&arguments)
+        } else if arguments.beyond {
+            printed_beyond(arguments.wish)
+        } else {
+            printed(arguments.wish)
+        }
     });
     match done {
         Ok(()) => ExitCode::SUCCESS,
@@ -38,6 +45,7 @@ fn arguments() -> Result<Arguments, String> {
     let mut options = Options::of_program();
     let mut arguments = Arguments {
         coverage: false,
+        beyond: false,
         seeds: 200,
         wish: Wish {
             seed: 0,
@@ -48,6 +56,7 @@ fn arguments() -> Result<Arguments, String> {
     while let Some(option) = options.option() {
         match option.as_str() {
             "--coverage" => arguments.coverage = true,
+            "--beyond" => arguments.beyond = true,
             "--without-lending" => arguments.wish.without_lending = true,
             "--seed" => arguments.wish.seed = options.number(&option)?,
             "--seeds" => arguments.seeds = options.number(&option)?,
@@ -65,6 +74,13 @@ fn printed(wish: Wish) -> Result<(), String> {
     let mut session = Session::new(false);
     let lines = script(&mut session, wish, |_, _, _| {});
     let lines = lines.map_err(|stop| format!("seed {}: {stop:?}", wish.seed))?;
+    shown(&text(&lines))
+}
+
+/// A script that leaves the domain, made along the model.
+fn printed_beyond(wish: Wish) -> Result<(), String> {
+    let mut session = model::Session::default();
+    let lines = beyond::script(&mut session, wish.seed, wish.lines, |_, _, _| {});
     shown(&text(&lines))
 }
 
