@@ -10,7 +10,7 @@ use Rattle.custody.specs.Book.{filled}
 use Rattle.custody.specs.Claim.{only, kind_of}
 use Rattle.std.specs.Prelude.{Option, None, is_some}
 use Rattle.rf233.specs.Described.{is_above}
-use Rattle.rf233.specs.Line.{any_of, buffers}
+use Rattle.rf233.specs.Line.{any_of, names}
 use Rattle.rf233.specs.Record.{one, times}
 use Rattle.laws.proofs.Logic.{none_left, none_right}
 use Rattle.rf233.specs.declared.driver.Lent.{Lent}
@@ -174,20 +174,20 @@ unfolding sum
 sum_none zero = refl
 sum_none (suc n) = omega (arith, sum_none n)
 
-sum_times : (l : List Lent) (n : ℕ) → 15 < n → any_of is_above l ≡ false → sum (λ b. times b (buffers l)) n ≡ length l
+sum_times : (l : List Lent) (n : ℕ) → 15 < n → any_of is_above l ≡ false → sum (λ b. times b (names l)) n ≡ length l
 sum_times [] n h e = sum_none n
 sum_times (x ∷ l) n h e =
     let low = ltb-false 15 x.buffer (none_left (is_above x) (any_of is_above l) e) in
     omega (
       arith,
-      sum_more (λ b. times b (buffers (x ∷ l))) (λ b. times b (buffers l)) x.buffer n (omega arith) (λ b. omega arith),
+      sum_more (λ b. times b (names (x ∷ l))) (λ b. times b (names l)) x.buffer n (omega arith) (λ b. omega arith),
       sum_times l n h (none_right (is_above x) (any_of is_above l) e),
     )
 
 pub filled_line : (l : List ℕ) (x : List Lent) → any_of is_above x ≡ false
-    → ((b : ℕ) → b < 19 → one (eqb (get_or l b client_place) receive_place) ≡ times b (buffers x)) → filled receive_place l 19 ≡ length x
+    → ((b : ℕ) → b < 19 → one (eqb (get_or l b client_place) receive_place) ≡ times b (names x)) → filled receive_place l 19 ≡ length x
 filled_line l x e f =
-    filled_sum receive_place l 19 ∙ (sum_same _ (λ b. times b (buffers x)) 19 f ∙ sum_times x 19 (lit< tt) e)
+    filled_sum receive_place l 19 ∙ (sum_same _ (λ b. times b (names x)) 19 f ∙ sum_times x 19 (lit< tt) e)
 
 -- what is the same for both directions of a register transfer is told by the kind without its direction
 pub as_kind : {A : Type 0} (f : ℕ → A) (n : ℕ) → f 2 ≡ f 1 → f n ≡ f (kind_of n)

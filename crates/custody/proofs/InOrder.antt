@@ -10,7 +10,7 @@ use Rattle.rf233.specs.Choice.{within}
 use Rattle.rf233.specs.Completion.{completed, transfer_over}
 use Rattle.rf233.specs.Driver.{Assignment, assigning, with_buffers}
 use Rattle.rf233.specs.Interrupt.{handle_interrupt}
-use Rattle.rf233.specs.Line.{buffers, front, line, some}
+use Rattle.rf233.specs.Line.{names, front, line, some}
 use Rattle.rf233.specs.Record.{buffer_in}
 use Rattle.rf233.specs.Rows.{Access, Next, Row, Shown, Test, holds}
 use Rattle.rf233.specs.Rows.Access.{none, reads, reads_frame, reads_length, writes, writes_frame}
@@ -58,7 +58,7 @@ use Rattle.custody.proofs.Phases as phases
 
 -- the queue of these, in which nothing was wrong
 abbrev pub right_queue : List Lent → Queue
-right_queue l = record { accepted = buffers l; wrong = false }
+right_queue l = record { accepted = names l; wrong = false }
 
 -- ---- what a step that started with the buffers q in turn and the listeners k leaves
 

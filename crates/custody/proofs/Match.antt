@@ -21,7 +21,7 @@ use Rattle.custody.specs.Book.{acts, turned_down}
 use Rattle.custody.specs.Claim.{only, held_below, kind_of, under_kind, under_write, under_read}
 use Rattle.std.specs.Prelude.{Option, None, Some, is_some}
 use Rattle.rf233.specs.Transfer.{kind_no}
-use Rattle.rf233.specs.Line.{line_room, line, front, behind, append, any_of, buffers}
+use Rattle.rf233.specs.Line.{line_room, line, front, behind, append, any_of, names}
 use Rattle.rf233.specs.Record.{one, slot_has, under_has, times, count_of, record_has, tx_under_way, rx_under_way, receive_count}
 use Rattle.rf233.specs.Choice.{one_of}
 use Rattle.rf233.specs.Completion.{buffers_back}
@@ -54,10 +54,10 @@ own_place_in u b = (not (eqb (under_kind u) 1) && eqb 16 b) || ((not (eqb (under
 
 -- with t in the transmit place, x in the line and u under way: at how many places buffer b is, and the sum of the places' numbers
 abbrev count : Option Lent → List Lent → Under → ℕ → ℕ
-count t x u b = count_by (own_place_in u b) (slot_has t b) (times b (buffers x)) (under_has u b)
+count t x u b = count_by (own_place_in u b) (slot_has t b) (times b (names x)) (under_has u b)
 
 abbrev spots : Option Lent → List Lent → Under → ℕ → ℕ
-spots t x u b = sum_by (own_place_in u b) (slot_has t b) (times b (buffers x)) (under_has u b)
+spots t x u b = sum_by (own_place_in u b) (slot_has t b) (times b (names x)) (under_has u b)
 
 -- a client's place or the line has a buffer that is not a client's
 abbrev high : Option Lent → List Lent → Under → Bool
@@ -364,10 +364,10 @@ module _ (r : Buffers) (k : Page) (m : Match r k) where
   pub fitted : (b : ℕ) → b < 19
       → (places_of r b ≡ only (get_or k.places b client_place))
       × (one (eqb (get_or k.places b client_place) transmit_place) ≡ one (slot_has r.tx_buf b))
-      × (one (eqb (get_or k.places b client_place) receive_place) ≡ times b (buffers (line r)))
+      × (one (eqb (get_or k.places b client_place) receive_place) ≡ times b (names (line r)))
   fitted b h =
       rw (m.own.tx, m.own.rx, m.own.buf, (m.booked.placed b h).1)
-      (fit (own_place_in r.under b) (slot_has r.tx_buf b) (times b (buffers (line r))) (under_has r.under b) (m.booked.placed b h).0)
+      (fit (own_place_in r.under b) (slot_has r.tx_buf b) (times b (names (line r))) (under_has r.under b) (m.booked.placed b h).0)
 
   -- what it does not have is at no place
   free : (b : ℕ) → record_has r b ≡ false → count r.tx_buf (line r) r.under b ≡ 0
@@ -397,7 +397,7 @@ module _ (r : Buffers) (k : Page) (m : Match r k) where
   own_placed : (b : ℕ) → b < 19 → 1 ≤ own_or r.under b → T (one_of (own_place ∷ transfer_place ∷ []) (get_or k.places b client_place))
   own_placed b h o =
       rw (m.booked.placed b h).1
-      (own_or_under (own_place_in r.under b) (slot_has r.tx_buf b) (times b (buffers (line r))) (under_has r.under b) o
+      (own_or_under (own_place_in r.under b) (slot_has r.tx_buf b) (times b (names (line r))) (under_has r.under b) o
       (m.booked.placed b h).0)
 
   pub own_kept : (b : ℕ) → 16 ≤ b → b < 19 → T (one_of (own_place ∷ transfer_place ∷ []) (get_or k.places b client_place))

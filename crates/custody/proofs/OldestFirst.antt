@@ -30,7 +30,7 @@ use Rattle.rf233.specs.Create.{new_call}
 use Rattle.rf233.specs.Data.{rx_full}
 use Rattle.rf233.specs.Driver.Flag.{sleep_pending}
 use Rattle.rf233.specs.Driver.{flagged, with_line}
-use Rattle.rf233.specs.Line.{append, buffers, line, line_room, some}
+use Rattle.rf233.specs.Line.{append, names, line, line_room, some}
 use Rattle.rf233.specs.Record.{lent, receive_count}
 use Rattle.rf233.specs.Refusal.{withdraws}
 use Rattle.rf233.specs.Starter.{register_transfer}
@@ -77,7 +77,7 @@ hears : {s : Seen} {d : Driver} → Good s d → T (some (in_turn d.buffers)) �
 hears {s} {d} g t =
     subst T g.listens (g.quiet (go s.lent refl))
   where
-    empty : (l : List Lent) → buffers l ≡ [] → T (some l) → ⊥
+    empty : (l : List Lent) → names l ≡ [] → T (some l) → ⊥
     empty [] e t = t
     empty (x ∷ l) e t = cc
 
@@ -105,13 +105,13 @@ stepped_none : (y : Reply) (q : Queue) → q.accepted ≡ [] → (stepped y q).a
 stepped_none y q e = read_none y.transfer (fold told q y.actions.items) ∙ all_none y.actions.items q e
 
 -- a buffer at the end
-buffers_append : (l m : List Lent) → buffers (l ++ m) ≡ buffers l ++ buffers m
-buffers_append [] m = refl
-buffers_append (x ∷ l) m = ap (λ k. x.buffer ∷ k) (buffers_append l m)
+names_append : (l m : List Lent) → names (l ++ m) ≡ names l ++ names m
+names_append [] m = refl
+names_append (x ∷ l) m = ap (λ k. x.buffer ∷ k) (names_append l m)
 
 append_in_turn : (r : Buffers) (x : Lent) → leb line_room (receive_count r) ≡ false
-    → buffers (in_turn (with_line (append (line r) x) r)) ≡ buffers (in_turn r) ++ (x.buffer ∷ [])
-append_in_turn r x f = ap buffers (append_turn r x f) ∙ buffers_append (in_turn r) (x ∷ [])
+    → names (in_turn (with_line (append (line r) x) r)) ≡ names (in_turn r) ++ (x.buffer ∷ [])
+append_in_turn r x f = ap names (append_turn r x f) ∙ names_append (in_turn r) (x ∷ [])
 
 -- a refusal leaves the record and the listeners
 left_buffers : (w : Bool) (d : Driver) → (cond w (flagged sleep_pending false d) d).buffers ≡ d.buffers

@@ -9,7 +9,7 @@ use native.Mathlib.Omega.{arith}
 use lib.Dec.{eqb, ltb, lit≤}
 use lib.ListN.{length}
 use borrow.Author.Tests.{ltb-true}
-use Rattle.rf233.specs.Line.{line_room, listed, line_of, front, behind, append, rotate, some, any_of, buffers}
+use Rattle.rf233.specs.Line.{line_room, listed, line_of, front, behind, append, rotate, some, any_of, names}
 use Rattle.rf233.specs.Place.{copies, first_place}
 use Rattle.laws.proofs.Logic.{none_right, or_left_comm}
 use Rattle.rf233.specs.Record.{one, times}
@@ -71,11 +71,11 @@ length_behind (x ∷ l) = omega arith
 
 -- ---- how often a buffer is in it
 
-pub times_append : (b : ℕ) (l : List Lent) (x : Lent) → times b (buffers (append l x)) ≡ times b (buffers l) + one (eqb x.buffer b)
+pub times_append : (b : ℕ) (l : List Lent) (x : Lent) → times b (names (append l x)) ≡ times b (names l) + one (eqb x.buffer b)
 times_append b [] x = omega arith
 times_append b (y ∷ l) x = omega (arith, times_append b l x)
 
-pub times_rotate : (b : ℕ) (l : List Lent) → times b (buffers (rotate l)) ≡ times b (buffers l)
+pub times_rotate : (b : ℕ) (l : List Lent) → times b (names (rotate l)) ≡ times b (names l)
 times_rotate b [] = refl
 times_rotate b (x ∷ l) = omega (arith, times_append b l x)
 

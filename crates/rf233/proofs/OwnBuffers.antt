@@ -10,7 +10,7 @@ use borrow.Author.Tests.{ne_eqb, ltb-true, ltb-false, leb-true, le-leb, not-fals
 use Rattle.std.specs.Prelude.{Option, None, Some}
 use Rattle.rf233.specs.Choice.{pick, one_of, within}
 use Rattle.rf233.specs.Create.{new_driver}
-use Rattle.rf233.specs.Line.{line, any_of, buffers}
+use Rattle.rf233.specs.Line.{line, any_of, names}
 use Rattle.rf233.specs.Described.{described, is_above, slot_above, client_above, recorded_twice, own_nowhere, twice_below, frame_no}
 use Rattle.rf233.specs.Record.{count_of, slot_has, under_has, own_has, one, record_has, times}
 use Rattle.rf233.specs.State.{state_no, state_frame}
@@ -51,7 +51,7 @@ slot_below None k h e = refl
 slot_below (Some x) k h e = ne_eqb x.buffer k (λ q. omega (arith, ltb-false 15 x.buffer e))
 
 -- nor has the line
-pub line_below : (l : List Lent) (k : ℕ) → 15 < k → any_of is_above l ≡ false → times k (buffers l) ≡ 0
+pub line_below : (l : List Lent) (k : ℕ) → 15 < k → any_of is_above l ≡ false → times k (names l) ≡ 0
 line_below [] k h e = refl
 line_below (x ∷ l) k h e =
     let other = ne_eqb x.buffer k (λ q. omega (arith, ltb-false 15 x.buffer (none_left (is_above x) (any_of is_above l) e))) in

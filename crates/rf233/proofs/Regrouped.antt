@@ -9,7 +9,7 @@ use lib.Dec.{eqb, leb, ltb}
 use lib.ListN.{get_or, length}
 use borrow.Author.Tests.{le-ltb, lt-ltb, leb-true, leb-false}
 use Rattle.std.specs.Prelude.{Option, None, Some, is_some}
-use Rattle.rf233.specs.Line.{line_room, line, buffers}
+use Rattle.rf233.specs.Line.{line_room, line, names}
 use Rattle.rf233.specs.Line as lines
 use Rattle.rf233.specs.Record.{one, tx_under_way, rx_under_way}
 use Rattle.rf233.specs.State.{state_no, state_frame}
@@ -65,7 +65,7 @@ any_two s t (x ∷ l) =
 -- what the clauses ask of a frame transfer. That a frame write's buffer is held in the transmit place is asked already where any is.
 module _ (n : ℕ) (handling : Bool) (l : List Lent) (room : length l ≤ line_room) where
   frame_asked : (u : Under) (tx : Option Lent) → slot_above (under_slot u) || (meets (named_in tx) (named_in (under_slot u))
-      || (meets (buffers l) (named_in (under_slot u)) || (tx_length_bad (tx_under_way u) n || (rx_length_bad (rx_under_way u)
+      || (meets (names l) (named_in (under_slot u)) || (tx_length_bad (tx_under_way u) n || (rx_length_bad (rx_under_way u)
       || ((is_some tx && is_some (tx_under_way u))
       || (ltb line_room (length l + one (is_some (rx_under_way u))) || (ltb 0 (frame_no u) && handling)))))))
       ≡ frame_bad u tx l n handling
@@ -73,11 +73,11 @@ module _ (n : ℕ) (handling : Bool) (l : List Lent) (room : length l ≤ line_r
   frame_asked Register tx = rw (no_more (length l) room) (simp (meets_empty, and-false, or-false))
   frame_asked (FrameRead x) tx =
       rw (and-false (is_some tx), one_more (length l))
-      (reading_order (is_above x ∷ meets (named_in tx) (x.buffer ∷ []) ∷ meets (buffers l) (x.buffer ∷ []) ∷ receive_length_bad x
+      (reading_order (is_above x ∷ meets (named_in tx) (x.buffer ∷ []) ∷ meets (names l) (x.buffer ∷ []) ∷ receive_length_bad x
       ∷ leb line_room (length l) ∷ handling ∷ []))
   frame_asked (FrameWrite x) None =
       rw (no_more (length l) room)
-      (writing_order (is_above x ∷ meets (buffers l) (x.buffer ∷ []) ∷ not (within 2 127 n && within (n + 3) 160 x.length) ∷ handling ∷ []))
+      (writing_order (is_above x ∷ meets (names l) (x.buffer ∷ []) ∷ not (within 2 127 n && within (n + 3) 160 x.length) ∷ handling ∷ []))
   frame_asked (FrameWrite x) (Some y) = simp or-true
 
 -- all the tests, clause by clause and place by place; 0 to 19 are `tests` below
@@ -124,8 +124,8 @@ module _ (d : Driver) where
   tests =
       not (within 129 160 r.spi_buf_whole) ∷ not (within 2 r.spi_buf_whole r.spi_buf_len) ∷ slot_above tx
       ∷ tx_length_bad tx r.tx_len ∷ lines.any_of is_above rx ∷ lines.any_of receive_length_bad rx
-      ∷ meets (named_in tx) (buffers rx) ∷ repeats (buffers rx) ∷ own_wrong r.under r ∷ slot_above going
-      ∷ meets (named_in tx) (named_in going) ∷ meets (buffers rx) (named_in going) ∷ tx_length_bad (tx_under_way r.under) r.tx_len
+      ∷ meets (named_in tx) (names rx) ∷ repeats (names rx) ∷ own_wrong r.under r ∷ slot_above going
+      ∷ meets (named_in tx) (named_in going) ∷ meets (names rx) (named_in going) ∷ tx_length_bad (tx_under_way r.under) r.tx_len
       ∷ rx_length_bad (rx_under_way r.under) ∷ held_besides r ∷ crowded r ∷ (ltb 0 (frame_no r.under) && handling) ∷ unfit ∷ missing ∷ []
 
   pub regrouped : by_place d ≡ described d
@@ -135,4 +135,4 @@ module _ (d : Driver) where
       (logic.regrouped (of tests) in_places in_clauses tt tt
       ∙ sym (uncounted r
       (length_bad r || (held_besides r || (crowded r || (frame_unfit r.under (state_no d.state) handling || missing))))
-      ∙ rw (← pairs tx going (buffers rx))))
+      ∙ rw (← pairs tx going (names rx))))

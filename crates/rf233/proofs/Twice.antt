@@ -12,7 +12,7 @@ use Rattle.std.specs.Prelude.{Option, None, Some}
 use Rattle.rf233.proofs.Conditions.{by_flag}
 use Rattle.laws.proofs.Logic.{none_left, none_right, both_ways, or_left, or_right, or_case, or_left_comm}
 use Rattle.rf233.proofs.OwnBuffers.{only_16, only_17, only_18, slot_below, line_below}
-use Rattle.rf233.specs.Line.{line, any_of, buffers}
+use Rattle.rf233.specs.Line.{line, any_of, names}
 use Rattle.rf233.specs.Record.{slot_has, under_has, own_has, one, times, count_of, record_has}
 use Rattle.rf233.specs.Described.{
   is_above,
@@ -36,7 +36,7 @@ use Rattle.rf233.specs.declared.driver.Under.TheVariants.{Idle, Register, FrameR
 
 -- the buffers that the client's places and the line name
 abbrev pub clients_named : Buffers → List ℕ
-clients_named r = named_in r.tx_buf ++ (buffers (line r) ++ named_in (under_slot r.under))
+clients_named r = named_in r.tx_buf ++ (names (line r) ++ named_in (under_slot r.under))
 
 -- a buffer that a list names more than once stands again behind one of its elements
 names_again : (l : List ℕ) (k : ℕ) → 1 < times k l → T (repeats l)
@@ -178,8 +178,8 @@ module _ (r : Buffers) where
         and-false r.spi_rx,
         and-false r.spi_buf,
         under_client r.under k h,
-        times_append k (named_in tx) (buffers rx ++ named_in going),
-        times_append k (buffers rx) (named_in going),
+        times_append k (named_in tx) (names rx ++ named_in going),
+        times_append k (names rx) (named_in going),
         named_times tx k,
         named_times going k,
       )
@@ -203,18 +203,18 @@ module _ (r : Buffers) where
         by_flag (eqb x.buffer k) (λ q. omega (arith, ltb-false 15 x.buffer e, eqb-true x.buffer k q))
         (λ q. absurd (omega (arith, rw q at h)))
 
-    line_low : (l : List Lent) (k : ℕ) → any_of is_above l ≡ false → 0 < times k (buffers l) → k < 16
+    line_low : (l : List Lent) (k : ℕ) → any_of is_above l ≡ false → 0 < times k (names l) → k < 16
     line_low l k e h =
         by_flag (ltb 15 k) (λ q. absurd (omega (arith, line_below l k (ltb-true 15 k q) e))) (λ q. omega (arith, ltb-false 15 k q))
 
     all_low : (k : ℕ) → 0 < times k (clients_named r) → k < 16
     all_low k h =
-        let x = times_append k (named_in tx) (buffers rx ++ named_in going) in
-        let y = times_append k (buffers rx) (named_in going) in
+        let x = times_append k (named_in tx) (names rx ++ named_in going) in
+        let y = times_append k (names rx) (named_in going) in
         by_flag (ltb 0 (times k (named_in tx))) (λ e. named_low tx k tx_low (ltb-true 0 (times k (named_in tx)) e))
-        (λ e. by_flag (ltb 0 (times k (buffers rx))) (λ f. line_low rx k rx_low (ltb-true 0 (times k (buffers rx)) f))
+        (λ e. by_flag (ltb 0 (times k (names rx))) (λ f. line_low rx k rx_low (ltb-true 0 (times k (names rx)) f))
         (λ f. named_low going k going_low
-        (omega (arith, x, y, ltb-false 0 (times k (named_in tx)) e, ltb-false 0 (times k (buffers rx)) f))))
+        (omega (arith, x, y, ltb-false 0 (times k (named_in tx)) e, ltb-false 0 (times k (names rx)) f))))
 
     clients : twice_below r 16 ≡ repeats (clients_named r)
     clients =

@@ -2,7 +2,7 @@
 use Rattle.std.specs.Prelude.{ℕ, zero, suc, ◌+◌, Bool, false, not, ◌&&◌, ◌||◌, List, [], ◌∷◌, eqb, leb, ltb, length}
 use Rattle.std.specs.Prelude.{Option, None, Some, is_some}
 use Rattle.rf233.specs.Choice.{one_of, within}
-use Rattle.rf233.specs.Line.{line_room, line, some, any_of, buffers}
+use Rattle.rf233.specs.Line.{line_room, line, some, any_of, names}
 use Rattle.rf233.specs.Record.{times, count_of, record_has, tx_under_way, rx_under_way, receive_count}
 use Rattle.rf233.specs.State.{state_no, state_frame}
 use Rattle.rf233.specs.declared.driver.Buffers.{Buffers}
@@ -122,7 +122,7 @@ receive_bad x = is_above x || receive_length_bad x
 
 -- of the line: a buffer that is no client's, or with a length out of bounds, or twice in it, or to transmit too
 abbrev pub line_bad : List Lent → Option Lent → Bool
-line_bad l tx = any_of receive_bad l || (repeats (buffers l) || meets (named_in tx) (buffers l))
+line_bad l tx = any_of receive_bad l || (repeats (names l) || meets (named_in tx) (names l))
 
 -- an own buffer in its own place while the transfer has it, or out of it while it does not
 abbrev pub own_wrong : Under → Buffers → Bool
@@ -137,10 +137,10 @@ abbrev pub frame_bad : Under → Option Lent → List Lent → ℕ → Bool → 
 frame_bad Idle tx l n handling = false
 frame_bad Register tx l n handling = false
 frame_bad (FrameRead x) tx l n handling =
-    let held = meets (named_in tx) (x.buffer ∷ []) || meets (buffers l) (x.buffer ∷ []) in
+    let held = meets (named_in tx) (x.buffer ∷ []) || meets (names l) (x.buffer ∷ []) in
     handling || (leb line_room (length l) || (receive_bad x || held))
 frame_bad (FrameWrite x) tx l n handling =
-    handling || (is_some tx || ((is_above x || tx_length_bad (Some x) n) || meets (buffers l) (x.buffer ∷ [])))
+    handling || (is_some tx || ((is_above x || tx_length_bad (Some x) n) || meets (names l) (x.buffer ∷ [])))
 
 -- all of it: the two lengths of spi_buf, each place, the transfer under way, the state
 abbrev pub by_place : Driver → Bool

@@ -60,6 +60,6 @@ any_of t [] = false
 any_of t (x ∷ l) = t x || any_of t l
 
 -- their numbers
-abbrev pub buffers : List Lent → List ℕ
-buffers [] = []
-buffers (x ∷ l) = x.buffer ∷ buffers l
+abbrev pub names : List Lent → List ℕ
+names [] = []
+names (x ∷ l) = x.buffer ∷ names l

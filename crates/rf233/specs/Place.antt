@@ -1,6 +1,6 @@
 -- The places of a buffer (document 01, "The book of custody"): where the driver's record has it, in the book's numbers.
 use Rattle.std.specs.Prelude.{ℕ, zero, suc, Bool, cond, List, [], ◌∷◌}
-use Rattle.rf233.specs.Line.{line, buffers}
+use Rattle.rf233.specs.Line.{line, names}
 use Rattle.rf233.specs.Record.{slot_has, under_has, own_has, times}
 use Rattle.rf233.specs.declared.driver.Buffers.{Buffers}
 use Rattle.rf233.specs.declared.place.Place.{Place}
@@ -47,7 +47,7 @@ copies (suc n) p l = p ∷ copies n p l
 abbrev pub places_of : Buffers → ℕ → List ℕ
 places_of r b =
     when (own_has r b) own_place (when (slot_has r.tx_buf b) transmit_place
-    (copies (times b (buffers (line r))) receive_place (when (under_has r.under b) transfer_place [])))
+    (copies (times b (names (line r))) receive_place (when (under_has r.under b) transfer_place [])))
 
 -- the first of some places; with none the buffer is with the client
 abbrev pub first_place : List ℕ → ℕ

@@ -1,6 +1,6 @@
 -- The driver's record of its buffers: what each place has, and at how many places a buffer is.
 use Rattle.std.specs.Prelude.{ℕ, ◌+◌, Bool, true, false, ◌&&◌, ◌||◌, List, [], ◌∷◌, eqb, ltb, length, Option, None, Some, is_some}
-use Rattle.rf233.specs.Line.{line, buffers}
+use Rattle.rf233.specs.Line.{line, names}
 use Rattle.rf233.specs.declared.driver.Buffers.{Buffers}
 use Rattle.rf233.specs.declared.driver.Lent.{Lent}
 use Rattle.rf233.specs.declared.driver.Under.{Under}
@@ -44,7 +44,7 @@ times b (c ∷ l) = one (eqb c b) + times b l
 
 -- at how many places the record has buffer b: its own, transmit, the line's, the transfer under way
 unfoldable pub count_of : Buffers → ℕ → ℕ
-count_of r b = one (own_has r b) + one (slot_has r.tx_buf b) + times b (buffers (line r)) + one (under_has r.under b)
+count_of r b = one (own_has r b) + one (slot_has r.tx_buf b) + times b (names (line r)) + one (under_has r.under b)
 
 -- the driver has buffer b
 abbrev pub record_has : Buffers → ℕ → Bool

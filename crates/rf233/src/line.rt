@@ -2,7 +2,7 @@
 // one buffer or none takes 5 in 100 instructions more where they are (measured).
 ghost use Rattle.std.specs.Prelude.{◌≡◌, ◌∷◌, length, ltb, not};
 ghost use Rattle.rf233.specs.Described.{receive_bad, repeats};
-ghost use Rattle.rf233.specs.Line.{any_of, append, behind, buffers, front, line_of, listed, rotate, some};
+ghost use Rattle.rf233.specs.Line.{any_of, append, behind, names, front, line_of, listed, rotate, some};
 ghost use Rattle.rf233.specs.Record.{times};
 
 use crate::driver::Lent;
@@ -42,7 +42,7 @@ impl Line {
     }
 
     // The oldest.
-    pub fn front(self) -> Option<Lent>
+    pub(crate) fn front(self) -> Option<Lent>
         ensures { result ≡ front (listed self) }
     {
         match self {
@@ -128,8 +128,8 @@ impl Line {
     }
 
     // The buffer is in the line.
-    pub fn has(self, buffer: u8) -> bool
-        ensures { result ≡ ltb 0 (times buffer (buffers (listed self))) }
+    pub(crate) fn has(self, buffer: u8) -> bool
+        ensures { result ≡ ltb 0 (times buffer (names (listed self))) }
     {
         match self {
             Line::Empty => false,
@@ -144,7 +144,7 @@ impl Line {
 
     // A buffer is in the line twice.
     pub(crate) fn repeats(self) -> bool
-        ensures { result ≡ repeats (buffers (listed self)) }
+        ensures { result ≡ repeats (names (listed self)) }
     {
         match self {
             Line::Empty | Line::One(_) => false,
