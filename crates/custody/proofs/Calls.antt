@@ -58,9 +58,9 @@ use Rattle.rf233.proofs.Conditions.{by_flag}
 use Rattle.rf233.proofs.EveryStep.{commit_by}
 use Rattle.rf233.proofs.Facts.{kind, frame_of, of, holding}
 use Rattle.rf233.proofs.Fit.{fit, join_same, join_32, join_30, join_33, unsent, tx_fits, in_line}
-use Rattle.rf233.proofs.LineLaws.{listed_is, some_is, some_append, length_append, any_append}
+use Rattle.rf233.proofs.LineLaws.{some_is, some_append, length_append, any_append}
 use Rattle.custody.proofs.BookLaws.{empty_is}
-use Rattle.custody.proofs.Custody.{Inv, After, Lengths}
+use Rattle.custody.proofs.Custody.{Inv, After, Lengths, lengths_line}
 use Rattle.custody.proofs.Events.{completed_keeps, others, asks_any, fires_any}
 use Rattle.custody.proofs.Match.{refuses, lends_tx, lends_rx}
 use Rattle.custody.proofs.Phases.{commits}
@@ -212,16 +212,7 @@ module _ (k : Page) (d : Driver) (v : Inv k d) where
       let least = ltb-false l 129 (is_false (ltb l 129) s) in
       let m = line d.buffers in
       let one : receive_length_bad (lent b l) ≡ false = rw (le-leb 129 l (omega arith), le-leb l 160 (omega arith)) in
-      record {
-        whole = g.whole;
-        present = g.present;
-        tx = g.tx;
-        tx_under = g.tx_under;
-        rx =
-            rw (listed_is (append m (lent b l)) few)
-            (any_append receive_length_bad m (lent b l) ∙ rw (g.rx, one) refl);
-        rx_under = g.rx_under;
-      }
+      lengths_line (append m (lent b l)) d.buffers few (any_append receive_length_bad m (lent b l) ∙ rw (g.rx, one) refl) g
 
   done_transmitting : (b l n : ℕ) → IsDone (begin_transmit d b l n)
   unfolding begin_transmit

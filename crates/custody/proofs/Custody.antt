@@ -1,19 +1,18 @@
 -- The invariant (`Inv`): the book agrees with the driver's record, the record fits the state, the lengths are within their bounds. What a
 -- starter does, and a row's access, keeps it (`access_keeps`). From the moves of Match.antt and the tests of Fit.antt. Assumes nothing.
 use Rattle.std.proofs.Common.{rules}
-use Rattle.std.proofs.Common.{◌≡◌, ℕ, ◌+◌, ◌≤◌, true, false, ◌&&◌, T, eqb, leb, List, [], ◌∷◌, sym, refl, ap, ◌∙◌, subst, arith, leb→le}
-use Rattle.std.proofs.Common.{le-leb, leb-true}
+use Rattle.std.proofs.Common.{◌≡◌, ℕ, ◌+◌, ◌≤◌, true, false, ◌&&◌, T, eqb, leb, List, sym, refl, ap, ◌∙◌, subst, arith, leb→le}
+use Rattle.std.proofs.Common.{length, le-leb, leb-true}
 use Rattle.rf233_const.specs.Command as command
-use Rattle.rf233.specs.Case.{accessed, handed, without_tx, without_front, rotated}
+use Rattle.rf233.specs.Case.{accessed, handed}
 use Rattle.rf233.specs.Choice.{pick, within}
 use Rattle.rf233.specs.Described.{tx_length_bad, rx_length_bad, receive_length_bad}
-use Rattle.rf233.specs.Line.{line, front, behind, some, any_of}
-use Rattle.rf233.specs.Driver.{with_spi_buf_len}
+use Rattle.rf233.specs.Line.{line_room, line, front, behind, rotate, some, any_of}
+use Rattle.rf233.specs.Driver.{with_line, with_spi_buf_len}
 use Rattle.std.specs.Prelude.{Some, is_some}
 use Rattle.rf233.specs.Record.{tx_under_way, rx_under_way}
 use Rattle.rf233.specs.Rows.{Access, Shown}
 use Rattle.rf233.specs.Rows.Access.{none, reads, writes, reads_length, reads_frame, writes_frame}
-use Rattle.rf233.specs.Rows.Shown.{plain, power_changed, config_done, sent_back, dropped_back, received_back, received_kept}
 use Rattle.rf233.specs.Starter as starter
 use Rattle.rf233.specs.Starter.{buffers_away, register_transfer, frame_read, frame_read_into, frame_write, frame_write_from}
 use Rattle.rf233.specs.Step.{step_of}
@@ -34,7 +33,9 @@ use Rattle.laws.proofs.Logic.{both_left, left, right, none_left, none_right}
 use Rattle.rf233.proofs.Facts.{of, under, holding}
 use Rattle.rf233.proofs.Facts.Kind.{access, reading}
 use Rattle.rf233.proofs.Fit.{fit, ok_access, fuller_fits}
-use Rattle.rf233.proofs.LineLaws.{listed_behind, listed_rotate, any_behind, any_rotate, front_behind}
+use Rattle.rf233.proofs.RowLaws.{handed_keeps}
+use Rattle.rf233.proofs.LineLaws.{length_behind, length_rotate, listed_is, listed_most}
+use Rattle.rf233.proofs.LineLaws.{listed_behind, any_behind, any_rotate, front_behind}
 use Rattle.rf233.proofs.OwnBuffers.{idle_is}
 use Rattle.custody.proofs.Actions.{full, full_line}
 use Rattle.custody.proofs.Match.{Match, Own, begins}
@@ -64,38 +65,27 @@ After k o = Inv (with_transfer o (noted_all o.reply.actions.items k)) o.driver
 
 -- ---- buffers handed back
 
--- what an emptied transmit place, a front that is away and one at the end of the line leave, the actions of a row leave
-pub handed_keeps : (P : Buffers → Type 0) → ((b : Buffers) → P b → P (without_tx b)) → ((b : Buffers) → P b → P (without_front b))
-    → ((b : Buffers) → P b → P (rotated b)) → (sh : List Shown) (b : Buffers) → P b → P (handed sh b)
-handed_keeps P t r q [] b p = p
-handed_keeps P t r q (plain x ∷ more) b p = handed_keeps P t r q more b p
-handed_keeps P t r q (power_changed ∷ more) b p = handed_keeps P t r q more b p
-handed_keeps P t r q (config_done ∷ more) b p = handed_keeps P t r q more b p
-handed_keeps P t r q (sent_back ∷ more) b p = handed_keeps P t r q more (without_tx b) (t b p)
-handed_keeps P t r q (dropped_back ∷ more) b p = handed_keeps P t r q more (without_tx b) (t b p)
-handed_keeps P t r q (received_back ∷ more) b p = handed_keeps P t r q more (without_front b) (r b p)
-handed_keeps P t r q (received_kept ∷ more) b p = handed_keeps P t r q more (rotated b) (q b p)
+-- another line whose lengths are within their bounds
+pub lengths_line : (l : List Lent) (b : Buffers) → length l ≤ line_room → any_of receive_length_bad l ≡ false → Lengths b
+    → Lengths (with_line l b)
+lengths_line l b h e g =
+    record {
+      whole = g.whole;
+      present = g.present;
+      tx = g.tx;
+      tx_under = g.tx_under;
+      rx = rw (listed_is l h) e;
+      rx_under = g.rx_under;
+    }
 
 pub handed_lengths : (sh : List Shown) (b : Buffers) → Lengths b → Lengths (handed sh b)
 handed_lengths =
     handed_keeps Lengths
     (λ b g. search rules)
-    (λ b g. record {
-      whole = g.whole;
-      present = g.present;
-      tx = g.tx;
-      tx_under = g.tx_under;
-      rx = rw (listed_behind b.rx_line) (any_behind receive_length_bad (line b) g.rx);
-      rx_under = g.rx_under;
-    })
-    (λ b g. record {
-      whole = g.whole;
-      present = g.present;
-      tx = g.tx;
-      tx_under = g.tx_under;
-      rx = rw (listed_rotate b.rx_line) (any_rotate receive_length_bad (line b) ∙ g.rx);
-      rx_under = g.rx_under;
-    })
+    (λ b g. let l = line b in
+    lengths_line (behind l) b (omega (arith, length_behind l, listed_most b.rx_line)) (any_behind receive_length_bad l g.rx) g)
+    (λ b g. let l = line b in
+    lengths_line (rotate l) b (omega (arith, length_rotate l, listed_most b.rx_line)) (any_rotate receive_length_bad l ∙ g.rx) g)
 
 pub handed_free : (sh : List Shown) (b : Buffers) → free_to_start b ≡ true → free_to_start (handed sh b) ≡ true
 handed_free = handed_keeps (λ b. free_to_start b ≡ true) (λ b e. e) (λ b e. e) (λ b e. e)

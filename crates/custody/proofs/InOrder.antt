@@ -8,13 +8,12 @@ use Rattle.rf233.specs.Action.{actions}
 use Rattle.rf233.specs.Case.{accessed, case_of, entering, handed, own_case, perform, shown, tree_at, trees, without_front, without_tx}
 use Rattle.rf233.specs.Choice.{within}
 use Rattle.rf233.specs.Completion.{completed, transfer_over}
-use Rattle.rf233.specs.Driver.{Assignment, assigning, with_buffers}
+use Rattle.rf233.specs.Driver.{assigning, with_buffers}
 use Rattle.rf233.specs.Interrupt.{handle_interrupt}
 use Rattle.rf233.specs.Line.{names, front, line, some}
 use Rattle.rf233.specs.Record.{buffer_in}
-use Rattle.rf233.specs.Rows.{Access, Next, Row, Shown, Test, holds}
+use Rattle.rf233.specs.Rows.{Access, Row, Shown, Test, holds}
 use Rattle.rf233.specs.Rows.Access.{none, reads, reads_frame, reads_length, writes, writes_frame}
-use Rattle.rf233.specs.Rows.Next.{same, to}
 use Rattle.rf233.specs.Rows.Row.{does}
 use Rattle.rf233.specs.Rows.Shown.{config_done, dropped_back, plain, power_changed, received_back, received_kept, sent_back}
 use Rattle.rf233.specs.Rows.Test.{is_set, length_fits, listens, status_in}
@@ -49,6 +48,7 @@ use Rattle.rf233.proofs.OwnBuffers.{idle_is}
 use Rattle.rf233.specs.OneBuffer.{in_turn}
 use Rattle.rf233.proofs.InTurn.{access_turn, register_turn}
 use Rattle.rf233.specs.declared.starter.Started.{Started}
+use Rattle.rf233.proofs.RowLaws.{entering_clients, entering_record}
 use Rattle.rf233.proofs.Trees.{Possible, leaves, row_at, row_of}
 use Rattle.custody.proofs.Actions.{Of, fewer, full_line, moved_of, padded_same, sent_of}
 use Rattle.custody.proofs.BookLaws.{same as same_no}
@@ -209,10 +209,6 @@ module _ (a : Arrived) (d : Driver) (r : Bool) (hears : T (some (line d.buffers)
 
 -- ---- a completion
 
-entering_clients : (m : Next) (r : ℕ) (l : List Assignment) (d : Driver) → (entering m (assigning r l d)).clients ≡ d.clients
-entering_clients same r l d = refl
-entering_clients (to s) r l d = refl
-
 module _ (p : Page) (q : List Lent) (k : Clients) (hears : T (some q) → T k.rx_client) where
   pub record Ready (d : Driver) : Type 0 where
     pub rest : Rest p d
@@ -229,7 +225,7 @@ module _ (p : Page) (q : List Lent) (k : Clients) (hears : T (some q) → T k.rx
       let e = entering m (assigning a.result l d) in
       let c = with_buffers (handed sh e.buffers) e in
       let y = actions (shown a e sh) in
-      let b = phases.entering_record m (assigning a.result l d) in
+      let b = entering_record m (assigning a.result l d) in
       let turn : line e.buffers ≡ q = ap line b ∙ g.turn in
       let s = ok_shown sh (settled l m (of d)) in
       let few = left (leb (length sh) 6 && s) _ o in

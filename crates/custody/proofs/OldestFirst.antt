@@ -28,11 +28,9 @@ use Rattle.rf233.specs.Calls.Call.{
 use Rattle.rf233.specs.Completion.{completed, transfer_over}
 use Rattle.rf233.specs.Create.{new_call}
 use Rattle.rf233.specs.Data.{rx_full}
-use Rattle.rf233.specs.Driver.Flag.{sleep_pending}
-use Rattle.rf233.specs.Driver.{flagged, with_line}
+use Rattle.rf233.specs.Driver.{with_line}
 use Rattle.rf233.specs.Line.{append, names, line, line_room, some}
 use Rattle.rf233.specs.Record.{lent, receive_count}
-use Rattle.rf233.specs.Refusal.{withdraws}
 use Rattle.rf233.specs.Starter.{register_transfer}
 use Rattle.rf233.specs.Step.{quiet, step_of}
 use Rattle.rf233.specs.Transfer.{kind_value, to_complete}
@@ -54,7 +52,7 @@ use Rattle.custody.specs.OldestFirst.{OldestFirst, Queue, Seen, called, not_olde
 use Rattle.laws.proofs.Logic.{none_left, none_right}
 use Rattle.rf233.proofs.Accepted.{done_completed}
 use Rattle.rf233.proofs.ChoiceLaws.{either}
-use Rattle.rf233.proofs.EveryCall.{Lays, attending, every_call, laid, lending, reset_actions}
+use Rattle.rf233.proofs.EveryCall.{attending, every_call, laid, Lays, left_buffers, left_clients, lending, reset_actions}
 use Rattle.rf233.specs.OneBuffer.{in_turn}
 use Rattle.rf233.proofs.InTurn.{append_turn, back_turn}
 use Rattle.custody.proofs.Calls.{keeps}
@@ -112,15 +110,6 @@ names_append (x ∷ l) m = ap (λ k. x.buffer ∷ k) (names_append l m)
 append_in_turn : (r : Buffers) (x : Lent) → leb line_room (receive_count r) ≡ false
     → names (in_turn (with_line (append (line r) x) r)) ≡ names (in_turn r) ++ (x.buffer ∷ [])
 append_in_turn r x f = ap names (append_turn r x f) ∙ names_append (in_turn r) (x ∷ [])
-
--- a refusal leaves the record and the listeners
-left_buffers : (w : Bool) (d : Driver) → (cond w (flagged sleep_pending false d) d).buffers ≡ d.buffers
-left_buffers true d = refl
-left_buffers false d = refl
-
-left_clients : (w : Bool) (d : Driver) → (cond w (flagged sleep_pending false d) d).clients ≡ d.clients
-left_clients true d = refl
-left_clients false d = refl
 
 module _ (p : Page) (s : Seen) (d : Driver) (v : Inv p d) (g : Good s d) where
   -- what a call that yields this is claimed to leave
@@ -231,8 +220,8 @@ module _ (p : Page) (s : Seen) (d : Driver) (v : Inv p d) (g : Good s d) where
   every c l =
       every_call d l (λ c t. Leaves c t.outcome) (record {
         refuses = λ c n e t z same.
-            turned c n e z (ap (λ (e : Driver). e.buffers) same ∙ left_buffers (withdraws c (answer_no (answer_of n))) d)
-            (ap (λ (e : Driver). e.clients) same ∙ left_clients (withdraws c (answer_no (answer_of n))) d);
+            turned c n e z (ap (λ (e : Driver). e.buffers) same ∙ left_buffers c (answer_no (answer_of n)) d)
+            (ap (λ (e : Driver). e.clients) same ∙ left_clients c (answer_no (answer_of n)) d);
         rests = λ c e q y. rested c e y;
         reads = λ c x z e q y. asked c e y transfer.RegisterRead x z refl;
         writes = λ c x z e q y. asked c e y transfer.RegisterWrite x z refl;

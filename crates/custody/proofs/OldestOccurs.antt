@@ -26,7 +26,7 @@ use Rattle.rf233.specs.Rows.{eval, holds}
 use Rattle.rf233.specs.Starter.{register_transfer, frame_read_into}
 use Rattle.rf233.specs.declared.driver.Client.TheVariants.{Receive}
 use Rattle.custody.specs.Claim.{Event}
-use Rattle.custody.specs.OldestFirst.{Queue, Seen, saw, seen, unseen}
+use Rattle.custody.specs.OldestFirst.{saw, seen, unseen}
 
 pool : List ℕ
 pool = replicate 3040 0

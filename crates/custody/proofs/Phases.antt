@@ -1,6 +1,5 @@
 -- Each step in which a completion ends, and a firing, keeps the invariant of Custody.antt where a transfer may begin: `ends`, for the one
 -- walk through the phases (`completion_by` of rf233). From the row test of Fit.antt and the moves of Match.antt. Assumes nothing.
-use Rattle.std.proofs.Common.{arith}
 use Rattle.std.proofs.Common.{◌≡◌, ℕ, true, false, not, ◌&&◌, T, eqb, leb, [], length, sym, refl, ap, ◌∙◌, subst, le_trans, leb→le}
 use Rattle.rf233.specs.Action.{actions}
 use Rattle.rf233.specs.Case.{perform, accessed, case_of, own_case, shown, handed, entering}
@@ -9,7 +8,7 @@ use Rattle.rf233.specs.Commit.{start_commit}
 use Rattle.rf233.specs.Driver.{assigning, flagged, with_buffers, with_state}
 use Rattle.rf233.specs.Driver.Flag.{interrupt_handling}
 use Rattle.rf233.specs.Interrupt.{handle_interrupt, interrupt_state}
-use Rattle.rf233.specs.Rows.{Next, Row, holds}
+use Rattle.rf233.specs.Rows.{Row, holds}
 use Rattle.rf233.specs.Rows.Row.{does}
 use Rattle.rf233.specs.Rows.Test.{length_fits}
 use Rattle.rf233.specs.Starter.{register_transfer}
@@ -40,6 +39,7 @@ use Rattle.rf233.proofs.Facts.Kind.{access}
 use Rattle.rf233.proofs.Fit.{fit, ok_shown, ok_row, row_fits, to_45, to_60, to_handling, to_62, to_33, to_29, to_59, to_28}
 use Rattle.rf233.proofs.Fit.{to_42, fuller_access}
 use Rattle.rf233.proofs.OwnBuffers.{idle_is}
+use Rattle.rf233.proofs.RowLaws.{entering_record}
 use Rattle.rf233.proofs.Trees.{row_of}
 use Rattle.custody.proofs.Actions.{padded_same, fewer, hands}
 use Rattle.custody.proofs.Custody.{
@@ -60,10 +60,6 @@ use Rattle.custody.proofs.Match.{Match, begins}
 pub length_known : (a : Arrived) (d : Driver) → holds length_fits a d ≡ within 11 127 a.result
 unfolding holds
 length_known a d = refl
-
--- the state that a row enters leaves the record
-pub entering_record : (m : Next) (d : Driver) → (entering m d).buffers ≡ d.buffers
-entering_record m d = grind arith
 
 -- the invariant, where a transfer may begin
 pub record Rest (k : Page) (d : Driver) : Type 0 where

@@ -51,7 +51,10 @@ use Rattle.rf233.specs.Calls.Call.{
   power,
   listener,
 }
-use Rattle.rf233.specs.Refusal.{left_by}
+use Rattle.rf233.specs.Refusal.{left_by, withdraws}
+use Rattle.rf233.specs.Driver.{flagged}
+use Rattle.rf233.specs.Driver.Flag.{sleep_pending}
+use Rattle.std.specs.Prelude.{cond}
 
 -- the five of a reset
 abbrev pub reset_actions : List Action
@@ -120,6 +123,21 @@ pub record Lays (c : Call) (d e : Driver) : Type 0 where
 -- where it does not lend one
 lays : {c : Call} {d e : Driver} → e.buffers ≡ laid c d.buffers → e.clients ≡ attending c d.clients → lending c ≡ false → Lays c d e
 lays b k r = record { buffers = b; clients = k; room = λ t. absurd (rw r at t) }
+
+-- a refusal leaves the record and the listeners
+pub left_buffers : (c : Call) (n : ℕ) (d : Driver) → (left_by c n d).buffers ≡ d.buffers
+left_buffers c n d = go (withdraws c n)
+  where
+    go : (w : Bool) → (cond w (flagged sleep_pending false d) d).buffers ≡ d.buffers
+    go true = refl
+    go false = refl
+
+pub left_clients : (c : Call) (n : ℕ) (d : Driver) → (left_by c n d).clients ≡ d.clients
+left_clients c n d = go (withdraws c n)
+  where
+    go : (w : Bool) → (cond w (flagged sleep_pending false d) d).clients ≡ d.clients
+    go true = refl
+    go false = refl
 
 -- on this driver, with this pool
 pub record OfCalls (d : Driver) (p : List ℕ) (P : Call → Called → Type 0) : Type 0 where

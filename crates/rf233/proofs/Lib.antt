@@ -8,6 +8,7 @@ pub mod Trees
 pub mod Facts
 pub mod Fit
 pub mod EveryStep
+pub mod RowLaws
 pub mod PoolLaws
 pub mod Sound
 pub mod Accepted

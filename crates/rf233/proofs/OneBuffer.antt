@@ -3,7 +3,7 @@
 -- Assumes nothing.
 use Prim.Native.Nat.{ℕ, ◌+◌, ◌≤◌}
 use mathlib.Core.Path.{◌≡◌, refl, sym, ap, ◌∙◌, subst}
-use mathlib.Core.Bool.{Bool, true, false, cond}
+use mathlib.Core.Bool.{Bool, true, false}
 use mathlib.Core.List.{List, [], ◌∷◌, ◌++◌}
 use native.Mathlib.Omega.{arith}
 use lib.Dec.{T}
@@ -33,16 +33,13 @@ use Rattle.rf233.specs.Case.{case_of, entering, handed, own_case, perform, rotat
 use Rattle.rf233.specs.Completion.{completed, transfer_over}
 use Rattle.rf233.specs.Data.{rx_full}
 use Rattle.rf233.specs.Described.{described}
-use Rattle.rf233.specs.Driver.{assigning, flagged, with_buffers}
-use Rattle.rf233.specs.Driver.Flag.{sleep_pending}
+use Rattle.rf233.specs.Driver.{assigning, with_buffers}
 use Rattle.rf233.specs.Interrupt.{handle_interrupt}
 use Rattle.rf233.specs.Line.{line, front, behind, rotate}
 use Rattle.rf233.specs.OneBuffer.{Moved, OneBuffer, as_list, in_turn, reading}
 use Rattle.rf233.specs.OneBuffer.Moved.{stays, lends, hands_back, turns}
 use Rattle.rf233.specs.Record.{lent, one, receive_count, rx_under_way}
-use Rattle.rf233.specs.Refusal.{withdraws}
-use Rattle.rf233.specs.Rows.{Next, Row, Shown}
-use Rattle.rf233.specs.Rows.Next.{same, to}
+use Rattle.rf233.specs.Rows.{Row, Shown}
 use Rattle.rf233.specs.Rows.Row.{does}
 use Rattle.rf233.specs.Rows.Shown.{plain, power_changed, config_done, sent_back, dropped_back, received_back, received_kept}
 use Rattle.rf233.specs.Starter.{register_transfer}
@@ -57,7 +54,8 @@ use Rattle.rf233.specs.declared.driver.Under.TheVariants.{Idle, Register, FrameR
 use Rattle.rf233.specs.declared.transfer.TransferKind.{TransferKind}
 use Rattle.laws.proofs.Logic.{all_below}
 use Rattle.rf233.proofs.ChoiceLaws.{either}
-use Rattle.rf233.proofs.EveryCall.{Lays, every_call, laid, lending}
+use Rattle.rf233.proofs.EveryCall.{Lays, every_call, laid, left_buffers, lending}
+use Rattle.rf233.proofs.RowLaws.{entering_record, handed_keeps}
 use Rattle.rf233.proofs.EveryStep.{Ends, Kept, commit_by, completion_by}
 use Rattle.rf233.proofs.Sound.{uncrowded}
 use Rattle.rf233.proofs.InTurn.{access_turn, append_turn, back_turn, register_turn}
@@ -122,14 +120,7 @@ module _ (xs : List ℕ) where
       subst (Completed (line b)) (sym (unmoved_line s (rotated b) t ∙ listed_rotate b.rx_line)) (turns xs refl)
 
   handed_idle : (s : List Shown) (b : Buffers) → b.under ≡ Idle → (handed s b).under ≡ Idle
-  handed_idle [] b i = i
-  handed_idle (plain x ∷ s) b i = handed_idle s b i
-  handed_idle (power_changed ∷ s) b i = handed_idle s b i
-  handed_idle (config_done ∷ s) b i = handed_idle s b i
-  handed_idle (sent_back ∷ s) b i = handed_idle s (without_tx b) i
-  handed_idle (dropped_back ∷ s) b i = handed_idle s (without_tx b) i
-  handed_idle (received_back ∷ s) b i = handed_idle s (without_front b) i
-  handed_idle (received_kept ∷ s) b i = handed_idle s (rotated b) i
+  handed_idle = handed_keeps (λ b. b.under ≡ Idle) (λ b e. e) (λ b e. e) (λ b e. e)
 
   -- ---- a completion of a driver whose receive buffers in turn are q
 
@@ -150,10 +141,6 @@ module _ (xs : List ℕ) where
 
     asked : (n : TransferKind) (x y : ℕ) (e : Driver) → in_turn e.buffers ≡ q → Leaves (step_of (register_transfer n x y e) (actions []))
     asked n x y e s = subst (Completed q) (sym (register_turn n x y e ∙ s)) stays
-
-    entering_record : (m : Next) (d : Driver) → (entering m d).buffers ≡ d.buffers
-    entering_record same d = refl
-    entering_record (to s) d = refl
 
     row_leaves : (r : Row) (a : Arrived) (d : Driver) → Ready d → T (row_once r) → Leaves (perform r a d)
     unfolding perform
@@ -228,11 +215,6 @@ laid_moved (address_long l) d r = stays
 laid_moved (power t) d r = stays
 laid_moved (listener x v) d r = stays
 
--- a refusal leaves the record
-left_record : (w : Bool) (d : Driver) → (cond w (flagged sleep_pending false d) d).buffers ≡ d.buffers
-left_record true d = refl
-left_record false d = refl
-
 module _ (d : Driver) where
   abbrev Moves : Call → Driver → Type 0
   Moves c e = Moved c (in_turn d.buffers) (in_turn e.buffers)
@@ -245,7 +227,7 @@ module _ (d : Driver) where
       every_call d p (λ c t. Moves c t.outcome.driver) (record {
         refuses = λ c n e t z same.
             subst (λ b. Moved c (in_turn d.buffers) (in_turn b))
-            (sym (ap (λ (e : Driver). e.buffers) same ∙ left_record (withdraws c (answer_no (answer_of n))) d)) stays;
+            (sym (ap (λ (e : Driver). e.buffers) same ∙ left_buffers c (answer_no (answer_of n)) d)) stays;
         rests = λ c e q y. begun c e y;
         reads = λ c x z e q y. subst (Moved c (in_turn d.buffers)) (sym (register_turn _ _ _ e)) (begun c e y);
         writes = λ c x z e q y. subst (Moved c (in_turn d.buffers)) (sym (register_turn _ _ _ e)) (begun c e y);

@@ -13,7 +13,7 @@ use Rattle.rf233.specs.Line.{line_room, line, names}
 use Rattle.rf233.specs.Line as lines
 use Rattle.rf233.specs.Record.{one, tx_under_way, rx_under_way}
 use Rattle.rf233.specs.State.{state_no, state_frame}
-use Rattle.rf233.specs.Described.{is_above, slot_above, under_slot, named_in, meets, repeats, receive_length_bad, receive_bad, own_wrong}
+use Rattle.rf233.specs.Described.{is_above, slot_above, under_slot, named_in, meets, repeats, receive_length_bad, own_wrong}
 use Rattle.rf233.specs.Described.{tx_length_bad, rx_length_bad, length_bad, held_besides, crowded, frame_no, frame_unfit, frame_bad}
 use Rattle.rf233.specs.Described.{buffer_missing, described, by_place}
 use Rattle.rf233.specs.Choice.{within}
