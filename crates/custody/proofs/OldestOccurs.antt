@@ -1,5 +1,5 @@
--- Runs that `oldest_first` speaks of occur: the listener is made present, three buffers are lent, two of them before the first frame and one
--- while it is read out, and two frames are received; each goes into the oldest, and the third buffer is left. Computed. Assumes nothing.
+-- Runs that `oldest_first` speaks of occur: the listener is made present, three buffers are lent, two of them before the first frame and
+-- one while it is read out, and two frames are received; each goes into the oldest, and the third buffer is left. Computed. Assumes nothing.
 use Rattle.std.proofs.Common.{◌≡◌, ℕ, true, false, List, [], ◌∷◌, ◌++◌, replicate, refl}
 use Rattle.rf233.specs.Calls.{Call, made}
 use Rattle.rf233.specs.Calls.Call.{start, fire, complete, receive_buffer, listener}
@@ -59,6 +59,6 @@ events =
 pub oldest_occurs : seen (new_call 129 26).driver unseen events
     ≡ record { queue = record { accepted = 5 ∷ []; wrong = false }; listens = true; lent = true; unheard = false }
 unfolding pool events saw seen made begin_start start_call new_call described count_of completing completion_call fired_call command_written
-    completed interrupt_result interrupt_state frame_end ready_bookkeeping pending_interrupt waiting_commit frame_done handle_interrupt case_of
-    perform eval trees tree_at holds register_transfer frame_read_into receive_buffer_call pick
+    completed interrupt_result interrupt_state frame_end ready_bookkeeping pending_interrupt waiting_commit frame_done handle_interrupt
+    case_of perform eval trees tree_at holds register_transfer frame_read_into receive_buffer_call pick
 oldest_occurs = refl
