@@ -1,5 +1,6 @@
 -- Runs that `oldest_first` speaks of occur: the listener is made present, three buffers are lent, two of them before the first frame and
--- one while it is read out, and two frames are received; each goes into the oldest, and the third buffer is left. Computed. Assumes nothing.
+-- one while it is read out, and two frames are received; each goes into the oldest, and the third buffer is left. Computed.
+-- Assumes nothing.
 use Rattle.std.proofs.Common.{◌≡◌, ℕ, true, false, List, [], ◌∷◌, ◌++◌, replicate, refl}
 use Rattle.rf233.specs.Calls.{Call, made}
 use Rattle.rf233.specs.Calls.Call.{start, fire, complete, receive_buffer, listener}
