@@ -26,6 +26,7 @@ pub mod FullPlace
 pub mod EveryCall
 pub mod InTurn
 pub mod OneBuffer
+pub mod LineRules
 pub mod Refusal
 pub mod StartupStages
 pub mod StartupRun
