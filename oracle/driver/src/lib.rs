@@ -24,6 +24,7 @@ pub mod outcome;
 mod panics;
 mod parse;
 pub mod performer;
+pub mod program;
 pub mod progress;
 pub mod random;
 pub mod run;

@@ -1,21 +1,11 @@
 //! The bytes that arrive with a completion, chosen by what the driver makes of them.
 
 use super::Generator;
+use super::bytes::{self, BUSY, PLL_LOCK, PLL_ON, RX_AACK_ON, RX_START, TRX_END};
 use crate::action::Kind;
 use crate::line::{Call, Client, Line};
 
-/// Statuses that the driver tells apart, and two that it does not know.
-const STATUSES: [u8; 10] = [0x00, 0x01, 0x06, 0x08, 0x09, 0x11, 0x12, 0x16, 0x1F, 0x0A];
-/// Statuses of a radio that is busy receiving or sending.
-const BUSY: [u8; 3] = [0x01, 0x11, 0x12];
-const PLL_ON: u8 = 0x09;
-const RX_AACK_ON: u8 = 0x16;
 const IN_PROGRESS: u8 = 0x1F;
-
-/// Interrupts that the driver looks at.
-const PLL_LOCK: u8 = 0x01;
-const RX_START: u8 = 0x04;
-const TRX_END: u8 = 0x08;
 
 /// Frame lengths about which something is decided.
 const LENGTHS: [u8; 12] = [0, 1, 2, 10, 11, 12, 40, 126, 127, 128, 129, 255];
@@ -58,27 +48,12 @@ impl Generator<'_> {
         let image = &self.view().image;
         let (state, handling) = (image.state(), image.flags.interrupt_handling);
         let (status, result) = match kind {
-            Kind::FrameRead => (self.status(), self.length(state)),
-            Kind::FrameWrite => (self.status(), self.random.byte()),
+            Kind::FrameRead => (bytes::status(&mut self.random), self.length(state)),
+            Kind::FrameWrite => (bytes::status(&mut self.random), self.random.byte()),
             _ if handling => (self.status_at(state), self.interrupts(state)),
             _ => (self.status_at(state), self.random.byte()),
         };
-        // The upper bits are not part of the status.
-        let first = status | (self.random.byte() & 0xE0);
-        let count = match self.random.percent(30) {
-            true => most,
-            false => self.random.within(2, most as u64) as usize,
-        };
-        let mut bytes = vec![first, result];
-        bytes.extend(self.random.bytes(count - 2));
-        bytes
-    }
-
-    fn status(&mut self) -> u8 {
-        match self.random.percent(80) {
-            true => self.random.pick(&STATUSES),
-            false => self.random.byte() & 0x1F,
-        }
+        bytes::arrived(&mut self.random, status, result, most)
     }
 
     /// A status that lets the state's case go on more often than not.
@@ -88,7 +63,7 @@ impl Generator<'_> {
             33 | 36 => (75, RX_AACK_ON),
             38 => (50, PLL_ON),
             43 => (70, RX_AACK_ON),
-            _ => return self.status(),
+            _ => return bytes::status(&mut self.random),
         };
         if self.random.percent(chance) {
             return wanted;
@@ -96,7 +71,7 @@ impl Generator<'_> {
         match state {
             33 | 36 => self.random.pick(&BUSY),
             38 if self.random.percent(50) => IN_PROGRESS,
-            _ => self.status(),
+            _ => bytes::status(&mut self.random),
         }
     }
 

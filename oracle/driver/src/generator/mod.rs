@@ -4,6 +4,7 @@
 mod around;
 mod arrived;
 pub mod beyond;
+mod bytes;
 mod plain;
 mod proposals;
 

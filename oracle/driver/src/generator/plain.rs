@@ -1,4 +1,5 @@
-//! Lines that any driver takes at any time: settings, listeners, queries, remarks.
+//! Lines that any driver takes at any time: new drivers, settings, listeners, queries,
+//! remarks.
 
 use crate::area::CLIENT_BUFFERS;
 use crate::line::{Call, Client, Line, Query};
@@ -6,6 +7,15 @@ use crate::random::Random;
 
 pub fn client_buffer(random: &mut Random) -> u64 {
     random.within(0, CLIENT_BUFFERS as u64 - 1)
+}
+
+pub fn new(random: &mut Random) -> Call {
+    let length = match random.percent(40) {
+        true => random.pick(&[129, 160]),
+        false => random.within(129, 160),
+    };
+    let channel = random.within(11, 26) as u8;
+    Call::New { length, channel }
 }
 
 pub fn setting(random: &mut Random) -> Call {

@@ -23,12 +23,7 @@ impl Generator<'_> {
 
     fn new_driver(&mut self) -> Line {
         self.settle();
-        let length = match self.random.percent(40) {
-            true => self.random.pick(&[129, 160]),
-            false => self.random.within(129, 160),
-        };
-        let channel = self.random.within(11, 26) as u8;
-        Line::Call(Call::New { length, channel })
+        Line::Call(plain::new(&mut self.random))
     }
 
     /// How a new driver begins: with some listeners and settings.

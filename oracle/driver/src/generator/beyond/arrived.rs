@@ -3,20 +3,9 @@
 
 use super::Generator;
 use crate::action::Kind;
+use crate::generator::bytes::{self, BUSY, PLL_LOCK, PLL_ON, RX_AACK_ON, RX_START, TRX_END};
 use crate::line::{Call, Line};
 use crate::model::driver::UnderWay;
-
-/// Statuses that the driver tells apart, and two that it does not know.
-const STATUSES: [u8; 10] = [0x00, 0x01, 0x06, 0x08, 0x09, 0x11, 0x12, 0x16, 0x1F, 0x0A];
-/// Statuses of a radio that is busy receiving or sending.
-const BUSY: [u8; 3] = [0x01, 0x11, 0x12];
-const PLL_ON: u8 = 0x09;
-const RX_AACK_ON: u8 = 0x16;
-
-/// Interrupts that the driver looks at.
-const PLL_LOCK: u8 = 0x01;
-const RX_START: u8 = 0x04;
-const TRX_END: u8 = 0x08;
 
 /// Frame lengths that are read out, and that are not, at their borders.
 const INSIDE: [u8; 5] = [11, 12, 40, 126, 127];
@@ -52,29 +41,18 @@ impl Generator<'_> {
         let state = self.driver().state;
         let handling = self.driver().flags.interrupt_handling;
         let (status, result) = match under_way.what.kind() {
-            Kind::FrameRead if state == 63 => (self.status(), self.first_length()),
-            Kind::FrameRead => (self.status(), self.second_length(under_way)),
-            Kind::FrameWrite => (self.status(), self.random.byte()),
+            Kind::FrameRead if state == 63 => {
+                (bytes::status(&mut self.random), self.first_length())
+            }
+            Kind::FrameRead => (
+                bytes::status(&mut self.random),
+                self.second_length(under_way),
+            ),
+            Kind::FrameWrite => (bytes::status(&mut self.random), self.random.byte()),
             _ if handling => (self.status_at(state), self.interrupts(state)),
             _ => (self.status_at(state), self.random.byte()),
         };
-        // The upper bits are not part of the status.
-        let first = status | (self.random.byte() & 0xE0);
-        let most = under_way.shorter_length();
-        let count = match self.random.percent(30) {
-            true => most,
-            false => self.random.within(2, most as u64) as usize,
-        };
-        let mut bytes = vec![first, result];
-        bytes.extend(self.random.bytes(count - 2));
-        bytes
-    }
-
-    fn status(&mut self) -> u8 {
-        match self.random.percent(80) {
-            true => self.random.pick(&STATUSES),
-            false => self.random.byte() & 0x1F,
-        }
+        bytes::arrived(&mut self.random, status, result, under_way.shorter_length())
     }
 
     /// A status that lets the state's case go on when things go well.
@@ -82,14 +60,14 @@ impl Generator<'_> {
         let wanted = match state {
             33 | 36 | 43 => RX_AACK_ON,
             38 => PLL_ON,
-            _ => return self.status(),
+            _ => return bytes::status(&mut self.random),
         };
         if self.random.percent(self.stretch.smooth) {
             return wanted;
         }
         match state {
             33 | 36 => self.random.pick(&BUSY),
-            _ => self.status(),
+            _ => bytes::status(&mut self.random),
         }
     }
 
