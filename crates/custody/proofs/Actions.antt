@@ -1,7 +1,8 @@
 -- The actions of a row, entered into the book one after another, leave it in agreement with the record whose places they empty: `hands`.
 -- Assumes nothing.
 use Rattle.std.proofs.Common.{arith}
-use Rattle.std.proofs.Common.{◌≡◌, ℕ, zero, suc, ◌≤◌, false, T, List, [], ◌∷◌, ◌++◌, length, take, replicate, sym, refl, ap, ◌∙◌, subst}
+use Rattle.std.proofs.Common.{◌≡◌, ℕ, zero, suc, ◌≤◌, false, T, List, [], ◌∷◌, ◌++◌, length, take, replicate}
+use Rattle.std.proofs.Common.{sym, refl, ap, ◌∙◌, subst}
 use Rattle.std.proofs.Common.{suc-le-suc, le_refl, le_of_suc-le-suc, not-suc-le-zero}
 use native.Mathlib.Nat.{le_step}
 use Rattle.rf233.specs.Case.{shown, handed, without_tx, without_front, rotated}
