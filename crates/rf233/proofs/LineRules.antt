@@ -86,8 +86,10 @@ line_rules =
           rw (m.client, m.long, few, h) (refl, append_turn d.buffers (lent b l) few);
       taken = λ d xs p x h f.
           let own = buf_home d h.passes.fit (rw h.is_under_way) in
-          rw (straight h 62 refl (rw h.state h.state) refl, h.is_under_way, f, own)
-          (refl {a = Some (transfer_of kind.FrameRead 18 x.buffer 0x20 0 2 x.length)}, record { remain = listed_behind d.buffers.rx_line; shown = refl });
+          rw (straight h 62 refl (rw h.state h.state) refl, h.is_under_way, f, own) (
+            refl {a = Some (transfer_of kind.FrameRead 18 x.buffer 0x20 0 2 x.length)},
+            record { remain = listed_behind d.buffers.rx_line; shown = refl },
+          );
       returned = λ d xs p x h.
           let own = frame_home d h.passes.fit x h.is_under_way in
           rw (straight h 66 refl (rw h.state) refl, h.is_under_way, own.0, own.1) (front_is (x ∷ line d.buffers));
