@@ -1,5 +1,5 @@
--- The conditions of the starred table (Starred.antt) occur: an example of each, so that no line of the table holds for want of a case.
--- Assumes nothing.
+-- The conditions of the starred table (Starred.antt) and of the rules of the line (LineRules.antt) occur: an example of each, so that no
+-- line of them holds for want of a case. Assumes nothing.
 use mathlib.Core.Path.{◌≡◌, refl}
 use mathlib.Core.Bool.{Bool, true, false}
 use mathlib.Core.List.{List, [], ◌∷◌}
@@ -15,7 +15,7 @@ use Rattle.rf233.specs.Driver.Flag.{radio_on, interrupt_handling, config_pending
 use Rattle.rf233.specs.Listeners.{set_client}
 use Rattle.rf233.specs.Described.{described}
 use Rattle.std.specs.Prelude.{Option, None, Some}
-use Rattle.rf233.specs.Record.{lent, count_of}
+use Rattle.rf233.specs.Record.{lent, count_of, receive_count, record_has}
 use Rattle.rf233.specs.declared.driver.Driver.{Driver}
 use Rattle.rf233.specs.declared.driver.Lent.{Lent}
 use Rattle.rf233.specs.declared.driver.Under.{Under}
@@ -31,7 +31,11 @@ use Rattle.rf233.specs.declared.state.InternalState.TheVariants.{
   CONFIG_PAN0_SET,
   RX_READING_FRAME_LEN,
   RX_READING_FRAME_LEN_DONE,
+  RX_START_READING,
+  RX_READING_FRAME,
+  RX_ENABLING_RECEPTION,
 }
+use Rattle.rf233.proofs.LineRules.{MayReceive}
 use Rattle.rf233.proofs.Starred.{Passes12, In, MaySend, Completes, Detours}
 
 -- a pool
@@ -82,6 +86,14 @@ detours n s y r i e b =
       no_frame_lem = refl;
     }
 
+-- two receive buffers, and a driver that reads a frame into one of four
+abbrev two : List Lent
+two = lent 4 129 ∷ lent 5 160 ∷ []
+
+abbrev reading_one_of_four : Driver
+reading_one_of_four =
+    example RX_READING_FRAME false false true false None (lent 5 160 ∷ lent 6 129 ∷ lent 7 129 ∷ []) (FrameRead (lent 4 129))
+
 pub record Occurs : Type 0 where
   pub sleeping : Passes12 (example SLEEP false false true true None [] Idle) pool
   pub sendable : MaySend (example READY false false true true None [] Idle) 3 pool
@@ -97,6 +109,12 @@ pub record Occurs : Type 0 where
       (0 ∷ 127 ∷ []) pool
   pub in_29_detour : Detours 29 (detouring READY []) (0 ∷ 0 ∷ []) pool
   pub in_64 : Detours 64 (detouring RX_READING_FRAME_LEN_DONE (lent 4 129 ∷ [])) (0 ∷ 11 ∷ []) pool
+  -- of the line: two in it; three, while a frame is read into the fourth
+  pub in_62 : Completes Register 62 (example RX_START_READING false false false true None two Register) (0 ∷ 0 ∷ []) pool
+  pub in_65 : Completes (FrameRead (lent 4 129)) 65 reading_one_of_four (0 ∷ 0 ∷ []) pool
+  pub in_68 : Completes Register 68 (example RX_ENABLING_RECEPTION false false false true None two Register) (0 ∷ 0 ∷ []) pool
+  pub four : receive_count reading_one_of_four.buffers ≡ 4
+  pub other : MayReceive 8 129 × (record_has reading_one_of_four.buffers 8 ≡ false) × (record_has reading_one_of_four.buffers 6 ≡ true)
 
 pub occurs : Occurs
 unfolding described count_of
@@ -123,4 +141,9 @@ occurs =
       in_63 = record { passes = passes _ refl; state = refl; is_under_way = refl; arrived = refl; handling = refl; pending = refl };
       in_29_detour = detours 29 READY [] 0 refl refl refl;
       in_64 = detours 64 RX_READING_FRAME_LEN_DONE (lent 4 129 ∷ []) 11 refl refl refl;
+      in_62 = record { passes = passes _ refl; state = refl; is_under_way = refl; arrived = refl; handling = refl; pending = refl };
+      in_65 = record { passes = passes _ refl; state = refl; is_under_way = refl; arrived = refl; handling = refl; pending = refl };
+      in_68 = record { passes = passes _ refl; state = refl; is_under_way = refl; arrived = refl; handling = refl; pending = refl };
+      four = refl;
+      other = (record { client = refl; long = refl }, refl, refl);
     }
