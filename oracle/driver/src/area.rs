@@ -70,16 +70,10 @@ impl Area {
         unsafe { ptr::copy_nonoverlapping(bytes.as_ptr(), self.start().add(at), bytes.len()) }
     }
 
-    /// One byte of the area.
-    pub fn byte(&self, at: usize) -> u8 {
-        assert!(at < AREA);
-        // SAFETY: inside the allocation; no slice of it is in use while the bench reads.
-        unsafe { self.start().add(at).read() }
-    }
-
     /// All bytes of the area.
     pub fn bytes(&self) -> [u8; AREA] {
-        // SAFETY: as in `byte`; the area begins the allocation.
+        // SAFETY: inside the allocation, which begins with the area; no slice of it is in use
+        // while the bench reads.
         unsafe { self.start().cast::<[u8; AREA]>().read() }
     }
 

@@ -14,6 +14,11 @@ const SHORTEST_RECEIVE: u64 = 129;
 const SPI_BUF_LENGTHS: std::ops::RangeInclusive<u64> = 129..=160;
 const CHANNELS: std::ops::RangeInclusive<u8> = 11..=26;
 
+/// The states in which request 2026-13 leaves the Rust, which takes IRQ_STATUS for the length
+/// in the first, and does not compare what the frame read brings in the second.
+const RX_READING_FRAME_LEN_DONE: u8 = 64;
+const RX_READING_FRAME: u8 = 65;
+
 /// A line that leaves the domain.
 pub struct Edge {
     pub reason: String,
@@ -44,6 +49,10 @@ fn reason(view: &View, call: &Call) -> Option<String> {
         Call::SetReceiveBuffer { .. } if receives(view) => {
             "a receive buffer is lent while the driver has one"
         }
+        Call::ReadWriteDone(_) if detour(view) => "an interrupt's detour in state 64",
+        Call::ReadWriteDone(arrived) if spoils(view, arrived) => {
+            "the second length byte differs from the first"
+        }
         _ => return None,
     };
     Some(reason.into())
@@ -52,6 +61,28 @@ fn reason(view: &View, call: &Call) -> Option<String> {
 /// Whether a receive buffer is held or under way.
 fn receives(view: &View) -> bool {
     view.image.cells.rx_buf.is_some() || view.kind() == Some(Kind::FrameRead)
+}
+
+/// Whether an interrupt's IRQ_STATUS read is under way between the length read and the frame
+/// read.
+fn detour(view: &View) -> bool {
+    view.state() == RX_READING_FRAME_LEN_DONE && view.image.flags.interrupt_handling
+}
+
+/// Whether a frame read ends here with another length byte than the one that it was begun
+/// with.
+fn spoils(view: &View, arrived: &[u8]) -> bool {
+    let second = arrived.get(1).copied();
+    second_length(view).is_some_and(|length| second != Some(length))
+}
+
+/// The second length byte that stays inside the domain, while the frame read that brings it
+/// is under way.
+pub fn second_length(view: &View) -> Option<u8> {
+    let transfer = view.under_way.as_ref();
+    let reading = transfer.filter(|transfer| transfer.kind == Kind::FrameRead);
+    let reading = reading.filter(|_| view.state() == RX_READING_FRAME)?;
+    Some(reading.frame_length())
 }
 
 /// Refusals that the Rust has not (marked + in document 01).

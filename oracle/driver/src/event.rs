@@ -142,6 +142,7 @@ pub fn needs_lending(state: u8) -> bool {
 fn completion_ruled_out(state: u8, interrupt: bool) -> Option<&'static str> {
     match (state, interrupt) {
         (59, _) => Some("no transfer is under way in RX"),
+        (64, true) => Some("the domain ends with an interrupt's detour here"),
         (28 | 31 | 35 | 42 | 44 | 61 | 64, false) => {
             Some("here only an interrupt's read can be under way")
         }

@@ -2,7 +2,7 @@
 
 use crate::action::Action;
 use crate::answer::{Answer, Value};
-use crate::area::{AREA, BUFFER, CLIENT_BUFFERS, POOL};
+use crate::area::{AREA, CLIENT_BUFFERS, POOL};
 use crate::bench::Bench;
 use crate::book::{Book, Place, Places};
 use crate::calls;
@@ -18,11 +18,8 @@ use crate::view::View;
 const FIRST_LENGTH: usize = 129;
 const FIRST_CHANNEL: u8 = 26;
 
-/// The states whose case may drop a sent buffer, comes last before a received one is
-/// announced, and announces it.
+/// The state whose case may drop a sent buffer.
 const TX_RETURN_TO_RX: u8 = 43;
-const RX_READING_FRAME_FCS_DONE: u8 = 67;
-const RX_ENABLING_RECEPTION: u8 = 68;
 
 /// What `mark` keeps.
 struct Mark {
@@ -63,28 +60,6 @@ impl Session {
 
     pub fn view(&self) -> &View {
         &self.view
-    }
-
-    /// Whether the next completion may announce a frame whose length byte is below 2:
-    /// the Rust subtracts 2 from it and panics.
-    pub fn announces_underflow(&self) -> bool {
-        let image = &self.view.image;
-        let announces = image.state() == RX_ENABLING_RECEPTION && image.listeners.receive;
-        announces && self.short_frame()
-    }
-
-    /// Whether a frame has been read out, is still to be announced, and its length byte is
-    /// below 2.
-    pub fn short_frame(&self) -> bool {
-        let image = &self.view.image;
-        let Some(lease) = &image.cells.rx_buf else {
-            return false;
-        };
-        let length = self.bench.area.byte(lease.buffer * BUFFER + 1);
-        matches!(
-            image.state(),
-            RX_READING_FRAME_FCS_DONE | RX_ENABLING_RECEPTION
-        ) && length < 2
     }
 
     /// Stops at the domain's edge, or takes note that it is passed.
@@ -140,7 +115,7 @@ impl Session {
             let answer = calls::make(driver, self.bench, call, has);
             (answer, calls::value(driver, call))
         });
-        made.map_err(|message| self.panicked(call, message))
+        made.map_err(|message| self.panicked(message))
     }
 
     /// Lets go of the driver and of every slice of the pool.
@@ -150,12 +125,9 @@ impl Session {
         self.bench.log.take();
     }
 
-    fn panicked(&self, call: &Call, message: String) -> Stop {
-        let known = matches!(call, Call::ReadWriteDone(_)) && self.announces_underflow();
+    fn panicked(&self, message: String) -> Stop {
         if self.past_domain {
             Stop::Panicked(message)
-        } else if known {
-            Stop::Outside(format!("the Rust panics: {message}"))
         } else {
             Stop::Disagreement(format!("the Rust panics inside the domain: {message}"))
         }

@@ -7,6 +7,9 @@ use crate::bench::{Bench, UnderWay};
 use crate::book::{Place, Places};
 use crate::rf233::probe::{Driver, Image, Lease};
 
+/// Bytes of a frame transfer before the frame's own.
+const PSDU_OFFSET: usize = 2;
+
 /// The transfer under way, as plain data.
 #[derive(Clone, Debug)]
 pub struct Transferring {
@@ -28,6 +31,11 @@ impl Transferring {
     /// The most bytes that can arrive.
     pub fn shorter_length(&self) -> usize {
         self.write.active.len().min(self.read.active.len())
+    }
+
+    /// n of a frame transfer: how many bytes of a frame it has.
+    pub fn frame_length(&self) -> u8 {
+        (self.write.active.len() - PSDU_OFFSET) as u8
     }
 
     /// The transfer with its slices made anew.

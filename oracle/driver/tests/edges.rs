@@ -132,22 +132,82 @@ fn a_transmit_length_must_fit_with_four_more() {
     assert_eq!(said, "the transmit length plus 4 does not fit 64 bits");
 }
 
-/// Up to the step that announces a frame whose second length byte is this.
-fn announced(second: u8) -> String {
+/// Up to the length read, whose end is next.
+fn length_read() -> String {
     let start = ready() + "set_receive_client 1\nset_receive_buffer 2 160\nfired\n";
-    let interrupt = "read_write_done 0 4\nfired\nread_write_done 0 0\nread_write_done 0 8\n";
-    let frame = format!("read_write_done 0 20\nread_write_done 0 {second}\n");
-    start + interrupt + &frame + "read_write_done 0 128\nread_write_done 0 0\n"
+    start + "read_write_done 0 4\nfired\nread_write_done 0 0\nread_write_done 0 8\n"
 }
 
 #[test]
-fn a_second_length_byte_below_two_is_a_panic_of_the_rust() {
-    let said = reason(&announced(1));
-    assert_eq!(said, "the Rust panics: attempt to subtract with overflow");
-    let (end, output) = answered(&announced(1), true);
-    assert_eq!(end, End::Panicked);
-    assert!(output.ends_with("\npanic attempt to subtract with overflow\n"));
-    let (end, output) = answered(&announced(2), false);
+fn an_interrupts_detour_in_64_leaves_the_domain_as_it_ends() {
+    let detour = length_read() + "fired\nread_write_done 0 20\n";
+    // Up to there, and with any call but its end, the domain goes on.
+    for call in [
+        "",
+        "fired\n",
+        "start\n",
+        "transmit 3 160 5\n",
+        "new 129 26\n",
+    ] {
+        let (end, output) = answered(&(detour.clone() + call), false);
+        assert_eq!(end, End::Complete, "{call}{output}");
+    }
+    for shown in [0, 4, 8, 12, 20, 64, 255] {
+        let script = format!("{detour}read_write_done 0 {shown}\n");
+        assert_eq!(reason(&script), "an interrupt's detour in state 64");
+    }
+    // The added refusals come first.
+    let said = reason(&(detour.clone() + "read_write_done 0\n"));
+    assert_eq!(said, "13 ARRIVED is an added refusal");
+    // Past it, the Rust takes the value for the length.
+    let (end, output) = answered(&(detour + "read_write_done 0 64\n"), true);
     assert_eq!(end, End::Complete);
-    assert!(output.contains("\nreceived 2 0 1\n"), "{output}");
+    assert!(
+        output.contains(" 0 64 65\ntransfer 3 66 160 32 "),
+        "{output}"
+    );
+}
+
+/// Up to the frame read of 20 bytes, whose end is next.
+fn frame_read() -> String {
+    length_read() + "read_write_done 0 20\n"
+}
+
+const TO_THE_NOTICE: &str = "read_write_done 0 128\nread_write_done 0 0\n";
+
+#[test]
+fn a_second_length_byte_that_differs_leaves_the_domain_as_it_arrives() {
+    for second in (0..=255).filter(|second| *second != 20) {
+        for listener in ["", "set_receive_client 0\n"] {
+            let script = format!("{}{listener}read_write_done 0 {second}\n", frame_read());
+            let said = reason(&script);
+            assert_eq!(said, "the second length byte differs from the first");
+        }
+    }
+    let whole = frame_read() + "read_write_done 0 20\n" + TO_THE_NOTICE;
+    let (end, output) = answered(&whole, false);
+    assert_eq!(end, End::Complete);
+    assert!(output.contains("\nreceived 2 18 1\n"), "{output}");
+    // The added refusals come first.
+    let said = reason(&(frame_read() + "read_write_done 0\n"));
+    assert_eq!(said, "13 ARRIVED is an added refusal");
+}
+
+#[test]
+fn past_it_the_rust_announces_the_second_length_byte() {
+    let announced = |second: u8| {
+        let frame = frame_read() + &format!("read_write_done 0 {second}\n");
+        answered(&(frame + TO_THE_NOTICE), true)
+    };
+    for second in [2, 19, 21, 255] {
+        let (end, output) = announced(second);
+        assert_eq!(end, End::Complete);
+        let notice = format!("\nreceived 2 {} 1\n", second - 2);
+        assert!(output.contains(&notice), "{output}");
+    }
+    for second in [0, 1] {
+        let (end, output) = announced(second);
+        assert_eq!(end, End::Panicked);
+        assert!(output.ends_with("\npanic attempt to subtract with overflow\n"));
+    }
 }

@@ -1,6 +1,12 @@
 //! The model by itself: along scripts inside the domain every refused call is tried at every
-//! line; the edges of the refusals; the line of receive buffers of request 2026-07; and what
-//! holds of every run, however far it leaves the domain.
+//! line; the edges of the refusals; the line of receive buffers of request 2026-07; the
+//! received length of request 2026-13; and what holds of every run, however far it leaves the
+//! domain.
+
+#[path = "model/every_notice.rs"]
+mod every_notice;
+#[path = "model/received_length.rs"]
+mod received_length;
 
 use oracle::answer::Answer;
 use oracle::domain;
@@ -440,17 +446,6 @@ fn a_frame_not_announced_for_another_reason_leaves_the_front() {
 }
 
 #[test]
-fn a_second_length_byte_of_0_or_1_gives_length_0_and_no_crc() {
-    for (second, said) in [
-        (0, "received 7 0 0"),
-        (1, "received 7 0 0"),
-        (2, "received 7 0 1"),
-    ] {
-        assert_eq!(received(&(lent(&[7]) + &frame(20, second))), [said]);
-    }
-}
-
-#[test]
 fn pool_bytes_from_outside_are_the_pools_bytes() {
     // Byte 1 of a frame write is the pool's; its length and n stay the driver's.
     let send = format!("{READY}transmit 3 160 1\npool 481 99 8\nread_write_done 22 0\n");
@@ -459,9 +454,6 @@ fn pool_bytes_from_outside_are_the_pools_bytes() {
         output.contains("transfer 4 5 129 96 99 8 0 0\n"),
         "{output}"
     );
-    // The announced length is read in the step that announces it.
-    let frame = frame(20, 20).replace("0 128\n", "0 128\npool 1121 50\n");
-    assert_eq!(received(&(lent(&[7]) + &frame)), ["received 7 48 1"]);
 }
 
 #[test]

@@ -120,7 +120,7 @@ fn a_commit_called_during_a_transfer_leaves_these_records() {
 fn a_reception_leaves_these_records() {
     let lent = "set_receive_client 1\nset_receive_buffer 2 160\n";
     let interrupt = "fired\nread_write_done 0 4\nfired\nread_write_done 0 0\n";
-    let frame = "read_write_done 0 8\nread_write_done 0 20\nread_write_done 0 22\n";
+    let frame = "read_write_done 0 8\nread_write_done 0 20\nread_write_done 0 20\n";
     let end = "read_write_done 0 128\nread_write_done 0 0\n";
     assert_eq!(
         last(&format!("{}{lent}{interrupt}{frame}{end}", ready())),
@@ -132,9 +132,9 @@ fn a_reception_leaves_these_records() {
             [1, 60, 61, 0, 0, 0, 1, 0x8F, 0, 2, 2, 0, 0, 0, 0x1D, 0],
             [1, 61, 63, 0, 0, 8, 3, 0x20, 0, 2, 160, 0, 0, 0, 0x09, 0],
             [1, 63, 65, 0, 0, 20, 3, 0x20, 20, 22, 160, 0, 0, 0, 0x09, 0],
-            [1, 65, 67, 0, 0, 22, 1, 0x86, 0, 2, 2, 0, 0, 0, 0x09, 0],
+            [1, 65, 67, 0, 0, 20, 1, 0x86, 0, 2, 2, 0, 0, 0, 0x09, 0],
             [1, 67, 68, 0, 0, 128, 2, 0xC2, 22, 2, 2, 0, 0, 0, 0x09, 0],
-            [1, 68, 29, 0, 0, 0, 1, 0x81, 0, 2, 2, 3, 20, 1, 0x09, 0],
+            [1, 68, 29, 0, 0, 0, 1, 0x81, 0, 2, 2, 3, 18, 1, 0x09, 0],
         ]
     );
 }

@@ -3,7 +3,8 @@
 use super::Generator;
 use super::bytes::{self, BUSY, PLL_LOCK, PLL_ON, RX_AACK_ON, RX_START, TRX_END};
 use crate::action::Kind;
-use crate::line::{Call, Client, Line};
+use crate::domain;
+use crate::line::{Call, Line};
 
 const IN_PROGRESS: u8 = 0x1F;
 
@@ -13,18 +14,35 @@ const LENGTHS: [u8; 12] = [0, 1, 2, 10, 11, 12, 40, 126, 127, 128, 129, 255];
 impl Generator<'_> {
     /// The end of the transfer under way, or what must come before it.
     pub fn completion(&mut self) -> Line {
-        if self.session.announces_underflow() {
-            // The Rust panics on such a length; without a listener it does not look.
-            return Line::Call(Call::SetClient {
-                client: Client::Receive,
-                present: false,
-            });
+        let state = self.view().state();
+        if state == 64 {
+            return self.other_way();
         }
         if self.random.percent(self.interruption()) {
-            return Line::Call(Call::Fired);
+            return self.interrupted(state);
         }
         let bytes = self.arrived();
         Line::Call(Call::ReadWriteDone(bytes))
+    }
+
+    /// The domain ends with the interrupt's detour that is under way: back to a mark, or to
+    /// the beginning of the script, or on with a new driver.
+    fn other_way(&mut self) -> Line {
+        match self.random.percent(75) {
+            true => Line::Back,
+            false => self.new_driver(),
+        }
+    }
+
+    /// An interrupt comes before the transfer ends. In 63 it leads to 64, so the reception
+    /// is marked: it goes on without the interrupt later.
+    fn interrupted(&mut self, state: u8) -> Line {
+        let fired = Line::Call(Call::Fired);
+        if state != 63 {
+            return fired;
+        }
+        self.planned.push_back(fired);
+        Line::Mark
     }
 
     /// How many times in a hundred an interrupt comes first. During these transfers it
@@ -48,7 +66,7 @@ impl Generator<'_> {
         let image = &self.view().image;
         let (state, handling) = (image.state(), image.flags.interrupt_handling);
         let (status, result) = match kind {
-            Kind::FrameRead => (bytes::status(&mut self.random), self.length(state)),
+            Kind::FrameRead => (bytes::status(&mut self.random), self.length()),
             Kind::FrameWrite => (bytes::status(&mut self.random), self.random.byte()),
             _ if handling => (self.status_at(state), self.interrupts(state)),
             _ => (self.status_at(state), self.random.byte()),
@@ -75,18 +93,15 @@ impl Generator<'_> {
         }
     }
 
-    /// A frame's length byte. In 63 it decides whether the frame is read out; in 65 it is
-    /// what a listener is told, and below 2 only now and then.
-    fn length(&mut self, state: u8) -> u8 {
-        let length = match self.random.percent(50) {
+    /// A frame's length byte. The first decides whether the frame is read out; the second is
+    /// the same.
+    fn length(&mut self) -> u8 {
+        if let Some(second) = domain::second_length(self.view()) {
+            return second;
+        }
+        match self.random.percent(50) {
             true => self.random.pick(&LENGTHS),
             false => self.random.within(11, 127) as u8,
-        };
-        let told = state == 65 && length < 2;
-        if told && self.random.percent(60) {
-            2
-        } else {
-            length
         }
     }
 
@@ -96,8 +111,6 @@ impl Generator<'_> {
             27 => PLL_LOCK,
             29 | 44 => RX_START,
             40 | 61 => TRX_END,
-            // Taken for the frame's length: a value that is one.
-            64 => self.random.pick(&[11, 18, 64, 96, 112, 127]),
             _ => 0,
         };
         if self.random.percent(65) {

@@ -35,6 +35,7 @@ impl Step<'_> {
             result: bytes[1],
         };
         self.return_buffers(&transfer);
+        self.note_length(&transfer, arrived.result);
         if self.interrupt_result(arrived.result) == Goes::Ended {
             return;
         }
@@ -69,6 +70,20 @@ impl Step<'_> {
             (What::FrameWrite(_), TX_WRITING_FRAME) => TX_WRITING_FRAME_DONE,
             (_, state) => state,
         };
+    }
+
+    /// Each frame read brings a length byte: the first is held, the second is compared with
+    /// it (request 2026-13).
+    fn note_length(&mut self, transfer: &UnderWay, byte: u8) {
+        let What::FrameRead(_) = transfer.what else {
+            return;
+        };
+        let reception = &mut self.driver.reception;
+        match self.driver.state {
+            RX_READING_FRAME_LEN_DONE => reception.held_length = byte,
+            RX_READING_FRAME_DONE => reception.spoiled = differs(byte, reception.held_length),
+            _ => {}
+        }
     }
 
     /// Where IRQ_STATUS was read, what it shows.
@@ -144,5 +159,15 @@ impl Step<'_> {
         }
         self.start_commit();
         Goes::Ended
+    }
+}
+
+/// Whether a second length byte spoils the reception. With the feature `planted-spoiled` only
+/// a smaller one does.
+fn differs(second: u8, held_length: u8) -> bool {
+    if cfg!(feature = "planted-spoiled") {
+        second < held_length
+    } else {
+        second != held_length
     }
 }

@@ -1,10 +1,11 @@
 //! The driver values that refusal 12 describes, clause by clause as the readings have it,
-//! with request 2026-07's for the line. No driver that came from a new one is such a value,
-//! so through the calls only the pool's length can show.
+//! with request 2026-07's for the line and 2026-13's for the held length. No driver that came
+//! from a new one is such a value, so through the calls only the pool's length can show.
 
 use std::ops::RangeInclusive;
 
 use super::driver::{Driver, Lent, MOST_RECEIVE, UnderWay, What};
+use super::receiving::FRAME_LENGTHS;
 use super::states::*;
 use crate::area::{BUFFER, CLIENT_BUFFERS, SPI_BUF, SPI_RX, SPI_TX};
 
@@ -22,6 +23,7 @@ pub fn described(driver: &Driver) -> bool {
         || wrong_lengths(driver)
         || wrong_transfer(driver)
         || buffer_missing(driver)
+        || wrong_held_length(driver)
 }
 
 /// A buffer recorded twice, an own buffer nowhere, a client's place with another's buffer,
@@ -104,6 +106,12 @@ fn buffer_missing(driver: &Driver) -> bool {
     }
 }
 
+/// A held length that is not read out, in a state that comes after that was decided.
+fn wrong_held_length(driver: &Driver) -> bool {
+    (RX_READING_FRAME..=RX_ENABLING_RECEPTION).contains(&driver.state)
+        && !FRAME_LENGTHS.contains(&driver.reception.held_length)
+}
+
 #[cfg(test)]
 mod tests {
     use super::described;
@@ -140,6 +148,7 @@ mod tests {
                 ..SECOND
             },
         ];
+        driver.reception.held_length = 20;
         driver
     }
 
@@ -164,9 +173,33 @@ mod tests {
         driver
     }
 
+    /// With a frame of the held length under way from the radio.
+    fn reading_out() -> Driver {
+        let mut driver = reading();
+        driver.state = RX_READING_FRAME;
+        driver.spi_buf.present = 22;
+        driver.under_way = transfer(What::FrameRead(SECOND), 22, 129);
+        driver
+    }
+
+    /// With a register transfer under way.
+    fn with_register(mut driver: Driver) -> Driver {
+        driver.own.spi_tx = false;
+        driver.own.spi_rx = false;
+        driver.under_way = transfer(What::RegisterRead, 2, 2);
+        driver
+    }
+
     #[test]
     fn what_calls_lead_to_is_not_described() {
-        for driver in [Driver::new(129, 11), ready(), writing(), reading()] {
+        for driver in [
+            Driver::new(129, 11),
+            ready(),
+            writing(),
+            reading(),
+            reading_out(),
+            with_register(ready()),
+        ] {
             assert!(!described(&driver), "{driver:?}");
         }
         let mut four = reading();
@@ -245,6 +278,49 @@ mod tests {
         );
     }
 
+    /// Whether a driver that differs only in its state and its held length is described.
+    fn described_in(mut driver: Driver, state: u8, held_length: u8) -> bool {
+        driver.state = state;
+        driver.reception.held_length = held_length;
+        described(&driver)
+    }
+
+    #[test]
+    fn the_held_length_from_65_to_68() {
+        for (held_length, wrong) in [
+            (0, true),
+            (10, true),
+            (11, false),
+            (20, false),
+            (127, false),
+            (128, true),
+            (255, true),
+        ] {
+            assert_eq!(described_in(reading_out(), 65, held_length), wrong);
+            for state in [66, 67, 68] {
+                for driver in [ready(), with_register(ready())] {
+                    let said = described_in(driver, state, held_length);
+                    assert_eq!(said, wrong, "{held_length} in {state}");
+                }
+            }
+        }
+    }
+
+    #[test]
+    fn elsewhere_any_held_length_will_do() {
+        for held_length in 0..=255 {
+            for state in 0..=64 {
+                let driver = match state {
+                    34 => writing(),
+                    63 => reading(),
+                    _ => ready(),
+                };
+                let said = described_in(driver, state, held_length);
+                assert!(!said, "{held_length} in {state}");
+            }
+        }
+    }
+
     #[test]
     fn each_clause_during_a_frame_transfer() {
         let both: &[fn(&mut Driver)] = &[
@@ -257,6 +333,7 @@ mod tests {
         ];
         all_described(writing, both);
         all_described(reading, both);
+        all_described(reading_out, both);
         all_described(
             writing,
             &[

@@ -24,6 +24,7 @@ pub struct Driver {
     pub tx_len: u8,
     /// The line of receive buffers, the oldest first.
     pub line: Vec<Lent>,
+    pub reception: Reception,
     pub under_way: Option<UnderWay>,
 }
 
@@ -73,6 +74,15 @@ pub struct Own {
 pub struct SpiBuf {
     pub whole: usize,
     pub present: usize,
+}
+
+/// What is kept of the frame that is being read (request 2026-13).
+#[derive(Clone, Debug, Default, PartialEq, Eq)]
+pub struct Reception {
+    /// The held length: the length byte that the last length read brought.
+    pub held_length: u8,
+    /// Whether the last frame read brought another one.
+    pub spoiled: bool,
 }
 
 /// A buffer that a client lent, and how long it is.
@@ -152,6 +162,7 @@ impl Driver {
             tx_buf: None,
             tx_len: 0,
             line: Vec::new(),
+            reception: Reception::default(),
             under_way: None,
         }
     }

@@ -1,5 +1,6 @@
 //! The own cases of the states in which a frame is received, and what becomes of the
-//! receive buffer that it was read into.
+//! receive buffer that it was read into. The length is the held one throughout (request
+//! 2026-13).
 
 use super::chip;
 use super::states::*;
@@ -7,7 +8,7 @@ use super::step::Step;
 use crate::action::Action;
 
 /// Frame lengths that are read out.
-const FRAME_LENGTHS: std::ops::RangeInclusive<u8> = 11..=127;
+pub const FRAME_LENGTHS: std::ops::RangeInclusive<u8> = 11..=127;
 /// Bytes of the frame check at a frame's end.
 const MFR_SIZE: u8 = 2;
 
@@ -22,11 +23,7 @@ impl Step<'_> {
                 self.driver.state = RX_READING_FRAME_LEN;
                 self.frame_read(0);
             }
-            RX_READING_FRAME_LEN_DONE if FRAME_LENGTHS.contains(&result) => {
-                self.driver.state = RX_READING_FRAME;
-                self.frame_read(result);
-            }
-            RX_READING_FRAME_LEN_DONE => self.go_on(),
+            RX_READING_FRAME_LEN_DONE => self.read_out(),
             RX_READING_FRAME_DONE => {
                 self.transition_read(chip::PHY_RSSI, RX_READING_FRAME_FCS_DONE);
             }
@@ -37,6 +34,17 @@ impl Step<'_> {
             }
             RX_ENABLING_RECEPTION => self.end_reception(),
             _ => {}
+        }
+    }
+
+    /// A frame of the held length is read out, or passed over.
+    fn read_out(&mut self) {
+        let length = self.driver.reception.held_length;
+        if FRAME_LENGTHS.contains(&length) {
+            self.driver.state = RX_READING_FRAME;
+            self.frame_read(length);
+        } else {
+            self.go_on();
         }
     }
 
@@ -57,22 +65,22 @@ impl Step<'_> {
     }
 
     /// The front of the line is handed back; without a listener it goes to the line's end
-    /// (request 2026-07).
+    /// (request 2026-07). A spoiled frame leaves it where it is.
     fn hand_back(&mut self) {
-        if self.driver.line.is_empty() {
+        let reception = &self.driver.reception;
+        if reception.spoiled || self.driver.line.is_empty() {
             return;
         }
+        let length = reception.held_length - MFR_SIZE;
         let lent = self.driver.line.remove(0);
         if !self.driver.listeners.receive {
             self.driver.line.push(lent);
             return;
         }
-        // The length is the pool's; one below 2 gives length 0 and no valid CRC.
-        let frame = self.byte(lent, 1).checked_sub(MFR_SIZE);
         self.act(Action::Received {
             buffer: lent.buffer,
-            length: usize::from(frame.unwrap_or(0)),
-            crc: frame.is_some() && self.driver.flags.crc_valid,
+            length: usize::from(length),
+            crc: self.driver.flags.crc_valid,
         });
     }
 }

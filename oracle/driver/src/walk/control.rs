@@ -1,7 +1,6 @@
 //! What tells two control states apart: everything that decides which way the driver
 //! goes, and nothing of what it only hands on (bytes, buffer numbers, settings, lengths).
 
-use crate::session::Session;
 use crate::view::View;
 
 /// A control state, packed: equal exactly if nothing below tells two drivers apart.
@@ -9,15 +8,11 @@ use crate::view::View;
 pub struct Control(u64);
 
 impl Control {
-    pub fn of(session: &Session) -> Control {
-        let view = session.view();
+    pub fn of(view: &View) -> Control {
         let kind = view.kind().map_or(0, |kind| kind as u64);
         let numbers = (u64::from(view.state()) << 3) | kind;
         let bits = flags(view).into_iter().chain(listeners(view));
         let bits = bits.chain(places(view));
-        // A frame of length 0 or 1 that is about to be announced: the domain ends there,
-        // so such a driver may not stand for the others.
-        let bits = bits.chain([session.short_frame()]);
         Control(bits.fold(numbers, |packed, bit| (packed << 1) | u64::from(bit)))
     }
 }

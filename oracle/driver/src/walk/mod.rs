@@ -71,7 +71,7 @@ pub struct Walk {
 impl Walk {
     pub fn new(bounds: Bounds) -> Walk {
         let session = Session::new(false);
-        let control = Control::of(&session);
+        let control = Control::of(session.view());
         let first = Node {
             control,
             from: 0,
@@ -130,7 +130,7 @@ impl Walk {
         }
         let wanted = self.nodes[place].control;
         assert!(
-            Control::of(&self.session) == wanted,
+            Control::of(self.session.view()) == wanted,
             "a path leads where it first led"
         );
         self.driver_states.insert(self.session.view().state());
@@ -168,7 +168,7 @@ impl Walk {
             }
         }
         self.count.transitions += 1;
-        let control = Control::of(&self.session);
+        let control = Control::of(self.session.view());
         if self.known.insert(control) {
             self.nodes.push(Node {
                 control,

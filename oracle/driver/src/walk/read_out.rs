@@ -2,9 +2,11 @@
 //! actions, but no flag and no place; those decide what the driver does later on. So after
 //! a step the driver is led on until everything it remembers has had its turn: startup to
 //! its end, out of sleep, through a waiting commit, a waiting stop, a frame that is being
-//! received and one that is to be sent.
+//! received and one that is to be sent. An interrupt that comes in the length read ends this,
+//! since the domain ends there: it is avoided where it does not wait already.
 
 use crate::action::Kind;
+use crate::domain;
 use crate::line::{Call, Line};
 use crate::view::View;
 
@@ -46,8 +48,13 @@ impl ReadOut {
 
     /// What comes next, or nothing when the driver has shown all.
     pub fn next(&mut self, view: &View) -> Option<Line> {
+        if self.frame_first && self.firings == 0 {
+            let firing = self.firing();
+            if !reads_next(view) {
+                return Some(Line::Call(firing));
+            }
+        }
         let call = match (view.kind(), view.state()) {
-            _ if self.frame_first && self.firings == 0 => self.firing(),
             (Some(kind), state) => self.completion(kind, state, view),
             _ if self.frame_first => return None,
             (None, 0 | 31) => Call::Start,
@@ -66,9 +73,12 @@ impl ReadOut {
 
     fn completion(&self, kind: Kind, state: u8, view: &View) -> Call {
         let status = if state == 38 { PLL_ON } else { RX_AACK_ON };
+        let (flags, cells) = (&view.image.flags, &view.image.cells);
         let result = match (kind, state) {
-            (Kind::FrameRead, _) => FRAME_LENGTH,
-            _ if !view.image.flags.interrupt_handling => OTHER_RESULT,
+            (Kind::FrameRead, _) => domain::second_length(view).unwrap_or(FRAME_LENGTH),
+            _ if !flags.interrupt_handling => OTHER_RESULT,
+            // The interrupt that waits has its turn before a frame is read.
+            _ if flags.interrupt_pending && cells.rx_buf.is_some() => 0,
             _ if self.frame_first => RX_START_AND_END,
             (_, 27) => PLL_LOCK,
             (_, 40) => TRX_END,
@@ -77,4 +87,11 @@ impl ReadOut {
         };
         Call::ReadWriteDone(vec![status, result])
     }
+}
+
+/// Whether the length read is under way, or the interrupt is that it follows: then the frame
+/// comes in without a firing.
+fn reads_next(view: &View) -> bool {
+    let handling = view.image.flags.interrupt_handling || view.state() == 60;
+    view.state() == 63 || (handling && view.image.cells.rx_buf.is_some())
 }

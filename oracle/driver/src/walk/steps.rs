@@ -1,7 +1,9 @@
 //! Every next step that is tried from a control state: each call, and a completion with
-//! each byte that some rule tells from others.
+//! each byte that some rule tells from others. A frame read's second length byte is the one
+//! that the domain allows.
 
 use super::Bounds;
+use crate::domain;
 use crate::line::{Call, Client, Line, Query};
 use crate::view::View;
 
@@ -136,21 +138,30 @@ fn completions(view: &View, all_pairs: bool) -> Vec<Line> {
     let Some(transfer) = &view.under_way else {
         return Vec::new();
     };
-    let every = all_pairs || LOOK_AT_STATUS.contains(&view.state());
-    let pairs = STATUSES
-        .iter()
-        .flat_map(|status| RESULTS.map(|result| (*status, result)));
-    let pairs = pairs.filter(|(status, result)| every || *status == RX_AACK_ON || *result == 0);
-    let mut arrived: Vec<Vec<u8>> = pairs.map(|(status, result)| vec![status, result]).collect();
+    let second = domain::second_length(view);
+    let mut arrived = match second {
+        Some(length) => STATUSES.map(|status| vec![status, length]).to_vec(),
+        None => pairs(all_pairs || LOOK_AT_STATUS.contains(&view.state())),
+    };
     let most = transfer.shorter_length();
     if most > 2 {
         let rest = (0..most - 2).map(|place| place as u8);
-        arrived.push([0xF6, 0x7F].into_iter().chain(rest).collect());
+        let first = [0xF6, second.unwrap_or(0x7F)];
+        arrived.push(first.into_iter().chain(rest).collect());
     }
     // The upper bits of the first byte are not part of the status.
-    arrived.push(vec![0xE0 | RX_AACK_ON, 0]);
+    arrived.push(vec![0xE0 | RX_AACK_ON, second.unwrap_or(0)]);
     arrived
         .into_iter()
         .map(|bytes| call(Call::ReadWriteDone(bytes)))
         .collect()
+}
+
+/// Each status with each result, or each of them once.
+fn pairs(every: bool) -> Vec<Vec<u8>> {
+    let pairs = STATUSES
+        .iter()
+        .flat_map(|status| RESULTS.map(|result| (*status, result)));
+    let pairs = pairs.filter(|(status, result)| every || *status == RX_AACK_ON || *result == 0);
+    pairs.map(|(status, result)| vec![status, result]).collect()
 }

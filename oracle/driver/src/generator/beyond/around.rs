@@ -7,7 +7,7 @@ use crate::generator::plain;
 use crate::line::{Call, Client, Line};
 
 /// How many times in a hundred each listener is there from the beginning.
-const PRESENT: u64 = 65;
+const PRESENT: u64 = 80;
 
 impl Generator<'_> {
     /// One of the lines around the calls.

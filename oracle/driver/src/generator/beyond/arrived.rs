@@ -7,6 +7,8 @@ use crate::generator::bytes::{self, BUSY, PLL_LOCK, PLL_ON, RX_AACK_ON, RX_START
 use crate::line::{Call, Line};
 use crate::model::driver::UnderWay;
 
+/// The interrupts that the driver looks at.
+const LOOKED_AT: u8 = PLL_LOCK | RX_START | TRX_END;
 /// Frame lengths that are read out, and that are not, at their borders.
 const INSIDE: [u8; 5] = [11, 12, 40, 126, 127];
 const OUTSIDE: [u8; 7] = [0, 1, 2, 10, 128, 129, 255];
@@ -44,10 +46,7 @@ impl Generator<'_> {
             Kind::FrameRead if state == 63 => {
                 (bytes::status(&mut self.random), self.first_length())
             }
-            Kind::FrameRead => (
-                bytes::status(&mut self.random),
-                self.second_length(under_way),
-            ),
+            Kind::FrameRead => (bytes::status(&mut self.random), self.second_length()),
             Kind::FrameWrite => (bytes::status(&mut self.random), self.random.byte()),
             _ if handling => (self.status_at(state), self.interrupts(state)),
             _ => (self.status_at(state), self.random.byte()),
@@ -71,10 +70,13 @@ impl Generator<'_> {
         }
     }
 
-    /// The length byte that decides whether the frame is read out.
+    /// The length byte that decides whether the frame is read out, and is held.
     fn first_length(&mut self) -> u8 {
         if !self.random.percent(self.stretch.smooth) {
-            return self.random.pick(&OUTSIDE);
+            return match self.random.percent(60) {
+                true => self.random.pick(&OUTSIDE),
+                false => self.random.byte(),
+            };
         }
         match self.random.percent(40) {
             true => self.random.pick(&INSIDE),
@@ -82,16 +84,35 @@ impl Generator<'_> {
         }
     }
 
-    /// The length byte of the frame itself: the first one, or another.
-    fn second_length(&mut self, under_way: &UnderWay) -> u8 {
-        let first = (under_way.write_length - 2) as u8;
-        match self.random.within(0, 99) {
-            0..10 => self.random.within(0, 1) as u8,
-            10..15 => first ^ 1,
-            15..20 => self.random.pick(&OUTSIDE),
-            20..25 => self.random.byte(),
-            _ => first,
+    /// The length byte of the frame itself: the held one, or one that spoils the reception.
+    fn second_length(&mut self) -> u8 {
+        let held = self.driver().reception.held_length;
+        if self.random.percent(self.stretch.faithful) {
+            return held;
         }
+        match self.random.within(0, 99) {
+            0..20 => held - 1,
+            20..40 => held + 1,
+            40..70 => self.random.pick(&[0, 1, 255]),
+            70..80 => self.random.pick(&OUTSIDE),
+            _ => self.random.byte(),
+        }
+    }
+
+    /// What a detour in 64 shows: any of the bits that decide, with others, so that the
+    /// value may be a length or none. Bit 2 leads to another frame, so it is less frequent.
+    fn detour(&mut self) -> u8 {
+        let others = match self.random.within(0, 4) {
+            0 => 0,
+            1 => 0x02,
+            2 | 3 => self.random.byte() & 0x72,
+            _ => 0x80 | (self.random.byte() & 0x72),
+        };
+        let mut looked_at = self.random.byte() & LOOKED_AT;
+        if self.random.percent(self.stretch.smooth / 2) {
+            looked_at &= !RX_START;
+        }
+        looked_at | others
     }
 
     /// What IRQ_STATUS shows: what the state waits for when things go well, else any of it.
@@ -105,18 +126,16 @@ impl Generator<'_> {
             29 => self.random.pick(&[RX_START, RX_START, RX_START | TRX_END]),
             44 => RX_START,
             40 | 61 => TRX_END,
-            // Taken for the frame's length: a value that is one, or none.
-            64 => self.random.pick(&[0, 11, 18, 64, 96, 127]),
+            64 => return self.detour(),
             _ => 0,
         };
         if self.random.percent(self.stretch.smooth) {
             return wanted;
         }
-        let looked_at = PLL_LOCK | RX_START | TRX_END;
         let others = match self.random.percent(30) {
             true => self.random.byte(),
             false => 0,
         };
-        (self.random.byte() & looked_at) | (others & !looked_at)
+        (self.random.byte() & LOOKED_AT) | (others & !LOOKED_AT)
     }
 }

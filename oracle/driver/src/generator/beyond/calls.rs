@@ -47,7 +47,7 @@ impl Generator<'_> {
             Proposal::Listener => plain::listener(&mut self.random),
             Proposal::ReceiveListener => Call::SetClient {
                 client: Client::Receive,
-                present: self.random.percent(50),
+                present: self.random.percent(80),
             },
             Proposal::Query => plain::query(&mut self.random),
             Proposal::Refused => return self.refused(),

@@ -6,6 +6,7 @@
 mod around;
 mod arrived;
 mod calls;
+mod receptions;
 mod refused;
 mod stretch;
 mod tally;

@@ -13,6 +13,8 @@ pub struct Stretch {
     pub unrest: u64,
     /// That what arrives lets the driver go on.
     pub smooth: u64,
+    /// That the second length byte of a frame is the held one.
+    pub faithful: u64,
     /// That an interrupt comes before a transfer ends.
     pub interruption: u64,
     /// What is begun in READY while nothing is going on.
@@ -24,6 +26,7 @@ impl Stretch {
         Stretch {
             unrest: random.pick(&[0, 2, 6, 12, 25, 45]),
             smooth: random.pick(&[50, 75, 90, 97]),
+            faithful: random.pick(&[65, 85, 95]),
             interruption: random.pick(&[0, 2, 8, 25]),
             beginnings: random.pick(&[RECEIVING, RECEIVING, SENDING, MIXED]),
         }
