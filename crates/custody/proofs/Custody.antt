@@ -10,6 +10,7 @@ use Rattle.rf233.specs.Described.{tx_length_bad, rx_length_bad, receive_length_b
 use Rattle.rf233.specs.Line.{line_room, line, front, behind, rotate, some, any_of}
 use Rattle.rf233.specs.Driver.{with_line, with_spi_buf_len}
 use Rattle.std.specs.Prelude.{Some, is_some}
+use Rattle.rf233.specs.Reception.{in_range}
 use Rattle.rf233.specs.Record.{tx_under_way, rx_under_way}
 use Rattle.rf233.specs.Rows.{Access, Shown}
 use Rattle.rf233.specs.Rows.Access.{none, reads, writes, reads_length, reads_frame, writes_frame}
@@ -160,7 +161,7 @@ module _ (k : Page) (e : Driver) (m : Match e.buffers k) (g : Lengths e.buffers)
           lengths = lengths_read x n e.buffers q h g;
         }))
 
-    writing_keeps : T (ok_access writes_frame true (of e)) → Begun (frame_write e)
+    writing_keeps : T (ok_access writes_frame (of e)) → Begun (frame_write e)
     writing_keeps o =
         full e.buffers.tx_buf (left (is_some e.buffers.tx_buf) _ o)
         (λ x q. subst Begun (sym (ap (λ s. frame_write_from s e) q ∙ write_begins x))
@@ -171,13 +172,14 @@ module _ (k : Page) (e : Driver) (m : Match e.buffers k) (g : Lengths e.buffers)
         }))
 
     -- an access that passes the test of the rows
-    pub access_keeps : (a : Arrived) (x : Access) → T (ok_access x (within 11 127 a.result) (of e))
+    pub access_keeps : (a : Arrived) (x : Access) → T (ok_access x (of e))
         → Inv (with_transfer (accessed x a l e) k) (accessed x a l e).driver
     access_keeps a none o = record { match = m; fitted = o; lengths = g }
     access_keeps a (reads r) o = register_keeps transfer.RegisterRead _ _ refl refl o
     access_keeps a (writes r v) o = register_keeps transfer.RegisterWrite _ _ refl refl o
     access_keeps a reads_length o = reading_keeps 0 (omega arith) o
     access_keeps a reads_frame o =
-        let f = within 11 127 a.result in
-        reading_keeps a.result (leb→le a.result 127 (right (leb 11 a.result) _ (left f _ o))) (right f _ o)
+        let n = e.reception.length in
+        let f = in_range e.reception in
+        reading_keeps n (leb→le n 127 (right (leb 11 n) _ (left f _ o))) (right f _ o)
     access_keeps a writes_frame o = writing_keeps o

@@ -6,7 +6,7 @@ use Rattle.std.proofs.Common.{◌≡◌, ℕ, true, false, not, T, eqb, [], sym,
 use borrow.Author.Tests.{not-false}
 use Rattle.rf233.specs.Action.{actions}
 use Rattle.rf233.specs.Choice.{pick}
-use Rattle.rf233.specs.Completion.{buffers_back, transfer_over, completed}
+use Rattle.rf233.specs.Completion.{buffers_back, length_taken, transfer_over, completed}
 use Rattle.rf233.specs.Interrupt.{handle_interrupt}
 use Rattle.rf233.specs.Starter.{register_transfer}
 use Rattle.rf233.specs.Step.{step_of}
@@ -22,7 +22,7 @@ use Rattle.custody.specs.Claim.{kind_of}
 use Rattle.rf233.proofs.Conditions.{by_flag}
 use Rattle.rf233.proofs.EveryStep.{completion_by}
 use Rattle.rf233.proofs.Facts.{kind, is_none, of, under, over_is}
-use Rattle.rf233.proofs.Fit.{fit, joins, return_fits}
+use Rattle.rf233.proofs.Fit.{fit, joins, return_fits, taken_fits}
 use Rattle.rf233.proofs.OwnBuffers.{idle_is, register_refrains}
 use Rattle.custody.proofs.Custody.{Inv, After, Lengths}
 use Rattle.custody.proofs.Match as match
@@ -57,9 +57,14 @@ returned_keeps k d v i =
       free = back_free d.buffers u i;
     }
 
+-- with what a frame read brought of a length
+pub taken_keeps : (k : Page) (a : Arrived) (d : Driver) → Inv k d → Inv k (length_taken a d)
+taken_keeps k a d v = record { match = v.match; fitted = taken_fits a d v.fitted; lengths = v.lengths }
+
 pub completed_keeps : (k : Page) (a : Arrived) (d : Driver) → Inv k d → to_complete d.buffers ≡ true → After (ended k) (completed a d)
 completed_keeps k a d v i =
-    completion_by (After (ended k)) (Rest (ended k)) (kept (ended k)) (ends (ended k)) a d (returned_keeps k d v i)
+    completion_by (After (ended k)) (Rest (ended k)) (kept (ended k)) (ends (ended k)) a d
+    (returned_keeps k (length_taken a d) (taken_keeps k a d v) i)
 
 -- ---- whatever is under way
 

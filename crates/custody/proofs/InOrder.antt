@@ -1,22 +1,20 @@
 -- A step keeps the queue of the driver's receive buffers in turn: by its row, which turns the line only where there is no receive listener
 -- (`rows_quiet`), and by its access, which reads into the first of them. Beside it goes the invariant of Custody.antt. Assumes nothing.
-use Rattle.std.proofs.Common.{◌≡◌, ℕ, Bool, true, false, not, ◌&&◌, T, eqb, leb, cond, List, [], ◌∷◌, length}
+use Rattle.std.proofs.Common.{◌≡◌, ℕ, Bool, true, false, not, ◌&&◌, T, eqb, leb, List, [], ◌∷◌, length}
 use Rattle.std.proofs.Common.{sym, refl, ap, ◌∙◌, subst, arith, leb→le, le_trans}
 use Rattle.std.specs.List.{fold}
 use Rattle.std.specs.Prelude.{Option, None, Some}
 use Rattle.rf233.specs.Action.{actions}
 use Rattle.rf233.specs.Case.{accessed, case_of, entering, handed, own_case, perform, shown, tree_at, trees, without_front, without_tx}
-use Rattle.rf233.specs.Choice.{within}
-use Rattle.rf233.specs.Completion.{completed, transfer_over}
+use Rattle.rf233.specs.Completion.{completed, length_taken, transfer_over}
 use Rattle.rf233.specs.Driver.{assigning, with_buffers}
 use Rattle.rf233.specs.Interrupt.{handle_interrupt}
 use Rattle.rf233.specs.Line.{names, front, line, some}
 use Rattle.rf233.specs.Record.{buffer_in}
-use Rattle.rf233.specs.Rows.{Access, Row, Shown, Test, holds}
+use Rattle.rf233.specs.Rows.{Access, Row, Shown}
 use Rattle.rf233.specs.Rows.Access.{none, reads, reads_frame, reads_length, writes, writes_frame}
 use Rattle.rf233.specs.Rows.Row.{does}
 use Rattle.rf233.specs.Rows.Shown.{config_done, dropped_back, plain, power_changed, received_back, received_kept, sent_back}
-use Rattle.rf233.specs.Rows.Test.{is_set, length_fits, listens, status_in}
 use Rattle.rf233.specs.Starter.{begun, frame_read_into, frame_write_from, register_transfer}
 use Rattle.rf233.specs.State.{state_no}
 use Rattle.rf233.specs.Step.{quiet, step_of}
@@ -26,8 +24,6 @@ use Rattle.rf233.specs.declared.action.Actions.{Actions}
 use Rattle.rf233.specs.declared.answer.Outcome.{Outcome}
 use Rattle.rf233.specs.declared.arrived.Arrived.{Arrived}
 use Rattle.rf233.specs.declared.driver.Buffers.{Buffers}
-use Rattle.rf233.specs.declared.driver.Client.{Client}
-use Rattle.rf233.specs.declared.driver.Client.TheVariants.{Config, Power, Receive, Transmit}
 use Rattle.rf233.specs.declared.driver.Clients.{Clients}
 use Rattle.rf233.specs.declared.driver.Driver.{Driver}
 use Rattle.rf233.specs.declared.driver.Lent.{Lent}
@@ -49,7 +45,7 @@ use Rattle.rf233.specs.OneBuffer.{in_turn}
 use Rattle.rf233.proofs.InTurn.{access_turn, register_turn}
 use Rattle.rf233.specs.declared.starter.Started.{Started}
 use Rattle.rf233.proofs.RowLaws.{entering_clients, entering_record}
-use Rattle.rf233.proofs.Trees.{Possible, leaves, row_at, row_of}
+use Rattle.rf233.proofs.Trees.{Known, known, leaves, row_known, row_of, same_self}
 use Rattle.custody.proofs.Actions.{Of, fewer, full_line, moved_of, padded_same, sent_of}
 use Rattle.custody.proofs.BookLaws.{same as same_no}
 use Rattle.custody.proofs.Custody.{handed_free}
@@ -114,7 +110,7 @@ module _ (k : Clients) (e : Driver) (i : e.buffers.under ≡ Idle) (c : e.client
   access_names (reads r) a l = register_names (in_turn e.buffers) k e c transfer.RegisterRead _ _ refl
   access_names (writes r v) a l = register_names (in_turn e.buffers) k e c transfer.RegisterWrite _ _ refl
   access_names reads_length a l = read_names (front (line e.buffers)) 0 refl
-  access_names reads_frame a l = read_names (front (line e.buffers)) a.result refl
+  access_names reads_frame a l = read_names (front (line e.buffers)) e.reception.length refl
   access_names writes_frame a l = write_names e.buffers.tx_buf
 
 -- ---- a row's actions
@@ -134,34 +130,11 @@ abbrev row_quiet : Bool → Row → Bool
 row_quiet r (does l x n s) = kept_quietly r s
 
 -- where it is known whether the receive listener is there
-abbrev told_by : Bool → Client → Bool → Bool
-told_by r Transmit v = true
-told_by r Receive v = cond r v (not v)
-told_by r Config v = true
-told_by r Power v = true
-
-abbrev heard : Bool → Possible
-heard r (status_in l) v = true
-heard r length_fits v = true
-heard r (is_set f) v = true
-heard r (listens x) v = told_by r x v
-
-heard_so : (a : Arrived) (d : Driver) (c : Test) → T (heard d.clients.rx_client c (holds c a d))
-unfolding holds
-heard_so a d (status_in l) = tt
-heard_so a d length_fits = tt
-heard_so a d (is_set f) = tt
-heard_so a d (listens Transmit) = tt
-heard_so a d (listens Receive) = go d.clients.rx_client
-  where
-    go : (r : Bool) → T (cond r r (not r))
-    go true = tt
-    go false = tt
-heard_so a d (listens Config) = tt
-heard_so a d (listens Power) = tt
+abbrev heard : Bool → Known
+heard r = record { fits = None; spoiled = None; sends = None; hears = Some r }
 
 -- THE TEST OF THE ROWS
-rows_quiet : T (all_below (λ n. all λ r. leaves (heard r) (row_quiet r) (tree_at n)) 69)
+rows_quiet : T (all_below (λ n. all λ r. leaves (known (heard r)) (row_quiet r) (tree_at n)) 69)
 unfolding tree_at trees
 rows_quiet = tt
 
@@ -169,9 +142,9 @@ row_is_quiet : (a : Arrived) (d : Driver) → T (row_quiet d.clients.rx_client (
 row_is_quiet a d =
     let n = state_no d.state in
     let r = d.clients.rx_client in
-    row_at (heard r) (row_quiet r) a d (heard_so a d) (tree_at n)
-    (all_at (λ r. leaves (heard r) (row_quiet r) (tree_at n))
-    (below_at (λ n. all λ r. leaves (heard r) (row_quiet r) (tree_at n)) 69 rows_quiet n (state_below d.state)) r)
+    row_known (heard r) (row_quiet r) a d (record { fits = tt; spoiled = tt; sends = tt; hears = same_self r })
+    (all_at (λ r. leaves (known (heard r)) (row_quiet r) (tree_at n))
+    (below_at (λ n. all λ r. leaves (known (heard r)) (row_quiet r) (tree_at n)) 69 rows_quiet n (state_below d.state)) r)
 
 -- an action that hands nothing back
 quietly : (q : Queue) (x : Action) → T (harmless x) → told q x ≡ q
@@ -218,7 +191,7 @@ module _ (p : Page) (q : List Lent) (k : Clients) (hears : T (some q) → T k.rx
   in_turn_is : (d : Driver) → Ready d → in_turn d.buffers ≡ q
   in_turn_is d g = rw (idle_is d.buffers.under g.rest.free) g.turn
 
-  perform_went : (a : Arrived) (d : Driver) → Ready d → (r : Row) → T (ok_row (within 11 127 a.result) (of d) r)
+  perform_went : (a : Arrived) (d : Driver) → Ready d → (r : Row) → T (ok_row (of d) r)
       → T (row_quiet k.rx_client r) → Went q k (perform r a d)
   unfolding perform
   perform_went a d g (does l x m sh) o h =
@@ -254,7 +227,7 @@ module _ (p : Page) (q : List Lent) (k : Clients) (hears : T (some q) → T k.rx
   unfolding case_of
   own_went a d g =
       perform_went a d g (row_of a d)
-      (subst (λ f. T (ok_row f (of d) (row_of a d))) (phases.length_known a d) (row_fits a d g.rest.inv.fitted (phases.rests p d g.rest)))
+      (row_fits a d g.rest.inv.fitted (phases.rests p d g.rest))
       (subst (λ (k : Clients). T (row_quiet k.rx_client (row_of a d))) g.clients (row_is_quiet a d))
 
   fires : (d : Driver) → in_turn d.buffers ≡ q → d.clients ≡ k → Went q k (handle_interrupt d)
@@ -285,5 +258,5 @@ module _ (p : Page) (q : List Lent) (k : Clients) (hears : T (some q) → T k.rx
         reads = λ d h g. record { rest = kept.reads d h g.rest; turn = g.turn; clients = g.clients };
       }
 
-  pub completes : (a : Arrived) (d : Driver) → Ready (transfer_over d) → Went q k (completed a d)
+  pub completes : (a : Arrived) (d : Driver) → Ready (transfer_over (length_taken a d)) → Went q k (completed a d)
   completes a d g = completion_by (Went q k) Ready ready_kept ready_ends a d g

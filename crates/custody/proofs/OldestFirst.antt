@@ -7,6 +7,7 @@ use Rattle.std.specs.List.{fold}
 use Rattle.std.specs.Prelude.{Option, None, Some}
 use Rattle.rf233.specs.Action.{actions}
 use Rattle.rf233.specs.Answer.{answer_no, answer_of, refused}
+use Rattle.rf233.specs.Arrived.{arrived_of}
 use Rattle.rf233.specs.Calls.{Call, yields}
 use Rattle.rf233.specs.Calls.Call.{
   start,
@@ -25,7 +26,7 @@ use Rattle.rf233.specs.Calls.Call.{
   power,
   listener,
 }
-use Rattle.rf233.specs.Completion.{completed, transfer_over}
+use Rattle.rf233.specs.Completion.{completed, length_taken, transfer_over}
 use Rattle.rf233.specs.Create.{new_call}
 use Rattle.rf233.specs.Data.{rx_full}
 use Rattle.rf233.specs.Driver.{with_line}
@@ -52,13 +53,13 @@ use Rattle.custody.specs.OldestFirst.{OldestFirst, Queue, Seen, called, not_olde
 use Rattle.laws.proofs.Logic.{none_left, none_right}
 use Rattle.rf233.proofs.Accepted.{done_completed}
 use Rattle.rf233.proofs.ChoiceLaws.{either}
-use Rattle.rf233.proofs.EveryCall.{attending, every_call, laid, Lays, left_buffers, left_clients, lending, reset_actions}
+use Rattle.rf233.proofs.EveryCall.{attending, every_call, laid, Lays, left_keeps, lending, reset_actions}
 use Rattle.rf233.specs.OneBuffer.{in_turn}
 use Rattle.rf233.proofs.InTurn.{append_turn, back_turn}
 use Rattle.custody.proofs.Calls.{keeps}
 use Rattle.custody.proofs.Custody.{Inv}
 use Rattle.custody.proofs.CustodyClaim.{newly}
-use Rattle.custody.proofs.Events.{returned_keeps}
+use Rattle.custody.proofs.Events.{returned_keeps, taken_keeps}
 use Rattle.custody.proofs.InOrder.{Ready, Went, asks, completes, rests, right_queue}
 
 -- ---- a list of calls
@@ -211,8 +212,8 @@ module _ (p : Page) (s : Seen) (d : Driver) (v : Inv p d) (g : Good s d) where
   completion : (xs : List ℕ) (a : Arrived) → to_complete d.buffers ≡ true → Leaves (complete xs) (completed a d)
   completion xs a i =
       let r = d.buffers in
-      let ready : Ready (ended p) (in_turn r) d.clients (hears g) (transfer_over d) =
-      record { rest = returned_keeps p d v i; turn = back_turn r v.match.room; clients = refl } in
+      let ready : Ready (ended p) (in_turn r) d.clients (hears g) (transfer_over (length_taken a d)) =
+      record { rest = returned_keeps p (length_taken a d) (taken_keeps p a d v) i; turn = back_turn r v.match.room; clients = refl } in
       goes (complete xs) (completed a d) (rw (done_completed a d) refl) (completes (ended p) (in_turn r) d.clients (hears g) a d ready)
       (λ t. absurd t)
 
@@ -220,13 +221,13 @@ module _ (p : Page) (s : Seen) (d : Driver) (v : Inv p d) (g : Good s d) where
   every c l =
       every_call d l (λ c t. Leaves c t.outcome) (record {
         refuses = λ c n e t z same.
-            turned c n e z (ap (λ (e : Driver). e.buffers) same ∙ left_buffers c (answer_no (answer_of n)) d)
-            (ap (λ (e : Driver). e.clients) same ∙ left_clients c (answer_no (answer_of n)) d);
+            turned c n e z (ap (λ (e : Driver). e.buffers) same ∙ left_keeps (λ d. d.buffers) c (answer_no (answer_of n)) d refl)
+            (ap (λ (e : Driver). e.clients) same ∙ left_keeps (λ d. d.clients) c (answer_no (answer_of n)) d refl);
         rests = λ c e q y. rested c e y;
         reads = λ c x z e q y. asked c e y transfer.RegisterRead x z refl;
         writes = λ c x z e q y. asked c e y transfer.RegisterWrite x z refl;
         resets = λ v e q y. was_reset (reset v) e y;
-        completes = λ xs a q e i. completion xs a i;
+        completes = λ xs q e i. completion xs (arrived_of xs) i;
       }) c
 
 -- whoever is unheard stays so

@@ -3,14 +3,12 @@
 use Rattle.std.proofs.Common.{◌≡◌, ℕ, true, false, not, ◌&&◌, T, eqb, leb, [], length, sym, refl, ap, ◌∙◌, subst, le_trans, leb→le}
 use Rattle.rf233.specs.Action.{actions}
 use Rattle.rf233.specs.Case.{perform, accessed, case_of, own_case, shown, handed, entering}
-use Rattle.rf233.specs.Choice.{within}
 use Rattle.rf233.specs.Commit.{start_commit}
 use Rattle.rf233.specs.Driver.{assigning, flagged, with_buffers, with_state}
 use Rattle.rf233.specs.Driver.Flag.{interrupt_handling}
 use Rattle.rf233.specs.Interrupt.{handle_interrupt, interrupt_state}
-use Rattle.rf233.specs.Rows.{Row, holds}
+use Rattle.rf233.specs.Rows.{Row}
 use Rattle.rf233.specs.Rows.Row.{does}
-use Rattle.rf233.specs.Rows.Test.{length_fits}
 use Rattle.rf233.specs.Starter.{register_transfer}
 use Rattle.rf233.specs.State.{state_no}
 use Rattle.rf233.specs.Step.{step_of, quiet, by_answer}
@@ -56,11 +54,6 @@ use Rattle.custody.proofs.Custody.{
 }
 use Rattle.custody.proofs.Match.{Match, begins}
 
--- what the tree asks of the length, as a fact about the byte
-pub length_known : (a : Arrived) (d : Driver) → holds length_fits a d ≡ within 11 127 a.result
-unfolding holds
-length_known a d = refl
-
 -- the invariant, where a transfer may begin
 pub record Rest (k : Page) (d : Driver) : Type 0 where
   pub inv : Inv k d
@@ -93,7 +86,7 @@ module _ (k : Page) where
       (ap free_to_start q ∙ v.free) (actions [])
 
   -- a row that passes the test
-  perform_keeps : (a : Arrived) (d : Driver) → Rest k d → (r : Row) → T (ok_row (within 11 127 a.result) (of d) r)
+  perform_keeps : (a : Arrived) (d : Driver) → Rest k d → (r : Row) → T (ok_row (of d) r)
       → After k (perform r a d)
   unfolding perform
   perform_keeps a d v (does l x m sh) o =
@@ -112,7 +105,7 @@ module _ (k : Page) where
       let kept =
       access_keeps (noted_all (shown a e sh) k) c given (handed_lengths sh e.buffers (subst Lengths (sym q) v.inv.lengths))
       (handed_free sh e.buffers (ap free_to_start q ∙ v.free)) y a x
-      (fuller_access x (within 11 127 a.result) (prepared_is a.result l m sh d) (right (leb (length sh) 6 && p) _ o)) in
+      (fuller_access x (prepared_is a.result l m sh d) (right (leb (length sh) 6 && p) _ o)) in
       let z = accessed x a y c in
       subst (λ n. Inv (with_transfer z n) z.driver)
       (sym (ap (λ (w : Actions). noted_all w.items k) (every_access (λ (o : Outcome). o.reply.actions ≡ y) a y c (λ e t. refl) x)
@@ -121,8 +114,7 @@ module _ (k : Page) where
   own_keeps : (a : Arrived) (d : Driver) → Rest k d → After k (own_case a d)
   unfolding case_of
   own_keeps a d v =
-      perform_keeps a d v (row_of a d)
-      (subst (λ f. T (ok_row f (of d) (row_of a d))) (length_known a d) (row_fits a d v.inv.fitted (rests d v)))
+      perform_keeps a d v (row_of a d) (row_fits a d v.inv.fitted (rests d v))
 
   -- a firing
   pub fires : (d : Driver) → Rest k d → After k (handle_interrupt d)

@@ -37,7 +37,7 @@ pub record Notices (f : Action → Bool) (a : Arrived) (d : Driver) : Type 0 whe
   pub config : T (f ConfigDone)
   pub sent : T (f (send_done d.buffers.tx_buf a.result))
   pub dropped : T (f (Dropped (buffer_in d.buffers.tx_buf)))
-  pub received : T (f (received a.length d))
+  pub received : T (f (received d))
 
 module _ (f : Action → Bool) (a : Arrived) (d : Driver) (n : Notices f a d) where
   abbrev Pass : List Action → Type 0

@@ -1,10 +1,10 @@
 -- Refusal 12 describes no driver that meets the invariant of Custody.antt: from a new driver it is given only for the pool's length.
 -- Assumes nothing.
 use Rattle.std.proofs.Common.{arith}
-use Rattle.std.proofs.Common.{◌≡◌, false, not, ◌&&◌, T, eqb, ltb}
+use Rattle.std.proofs.Common.{◌≡◌, false, not, ◌&&◌, ◌||◌, T, eqb, ltb}
 use Rattle.custody.specs.Book.{Page}
 use Rattle.std.specs.Prelude.{is_some}
-use Rattle.rf233.specs.Described.{length_bad, held_besides, described, buffer_missing}
+use Rattle.rf233.specs.Described.{length_bad, held_besides, described, buffer_missing, held_length_bad}
 use Rattle.rf233.specs.State.{state_no, state_frame}
 use Rattle.rf233.specs.declared.driver.Buffers.{Buffers}
 use Rattle.rf233.specs.declared.driver.Driver.{Driver}
@@ -44,5 +44,5 @@ sound k d v =
       frame_no_lem u,
       is_true e (left e (not h) f),
       is_false h (right e (not h) f),
-      is_false (buffer_missing d.buffers n) p,
+      is_false (buffer_missing d.buffers n || held_length_bad d.reception n) p,
     )

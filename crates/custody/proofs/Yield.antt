@@ -7,6 +7,7 @@ use Rattle.laws.proofs.Logic.{left, right, is_true, all_below}
 use Rattle.std.specs.Prelude.{Option, None, Some}
 use Rattle.rf233.specs.Action.{actions}
 use Rattle.rf233.specs.Answer.{answer_of}
+use Rattle.rf233.specs.Arrived.{arrived_of}
 use Rattle.rf233.specs.Case.{perform, case_of, own_case, shown, accessed, entering, trees, tree_at}
 use Rattle.rf233.specs.Completion.{completed}
 use Rattle.rf233.specs.Driver.{assigning}
@@ -123,7 +124,7 @@ access_yields none a l d h t = with_actions_lem l h t _ _ (omega arith)
 access_yields (reads r) a l d h t = with_actions_lem l h t _ _ (register_small transfer.RegisterRead _ _ d)
 access_yields (writes r v) a l d h t = with_actions_lem l h t _ _ (register_small transfer.RegisterWrite _ _ d)
 access_yields reads_length a l d h t = with_actions_lem l h t _ _ (read_small (front (line d.buffers)) 0 d)
-access_yields reads_frame a l d h t = with_actions_lem l h t _ _ (read_small (front (line d.buffers)) a.result d)
+access_yields reads_frame a l d h t = with_actions_lem l h t _ _ (read_small (front (line d.buffers)) d.reception.length d)
 access_yields writes_frame a l d h t = with_actions_lem l h t _ _ (write_small d.buffers.tx_buf d)
 
 row_yields : (r : Row) (a : Arrived) (d : Driver) → T (row_six r) → Yields (perform r a d)
@@ -167,5 +168,5 @@ six_actions d c p =
       reads = λ c x y e q s. asks transfer.RegisterRead x y e;
       writes = λ c x y e q s. asks transfer.RegisterWrite x y e;
       resets = λ v e q s. with_actions_lem reset_actions (omega arith) tt Done None (omega arith);
-      completes = λ xs a q e i. completion_yields a d;
+      completes = λ xs q e i. completion_yields (arrived_of xs) d;
     }) c

@@ -15,7 +15,6 @@ use Rattle.rf233.specs.Choice.{pick}
 use Rattle.rf233.specs.Interrupt.{handle_interrupt}
 use Rattle.rf233.specs.Completion.{completed}
 use Rattle.rf233.specs.Case.{perform, case_of, own_case, tree_at}
-use Rattle.rf233.specs.Pool.{copied, read_buffer}
 use Rattle.rf233.specs.Rows.{Row, eval}
 use Rattle.rf233.specs.Rows.Row.{does}
 use Rattle.rf233.specs.Transfer.{to_complete}
@@ -58,11 +57,8 @@ unfolding fired_call
 fired_accepted d p e = ap (λ (c : Called). c.outcome) (past (pool_fault d p) _ _ refl e)
 
 -- an accepted completion is the step of its bytes
-abbrev pub arrived : Driver → List ℕ → List ℕ → Arrived
-arrived d xs p = arrived_of xs d.buffers (copied (read_buffer d.buffers.under) xs p)
-
 pub completion_accepted : (d : Driver) (xs p : List ℕ) → accepted (completion_call d xs p) ≡ true
-    → (completion_call d xs p).outcome ≡ completed (arrived d xs p) d
+    → (completion_call d xs p).outcome ≡ completed (arrived_of xs) d
 unfolding completion_call completing
 completion_accepted d xs p e =
     let e₁ = past (pool_fault d p) _ _ refl e in

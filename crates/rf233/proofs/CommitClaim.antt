@@ -30,13 +30,14 @@ use Rattle.rf233.specs.Write.{row_at}
 use Rattle.rf233.specs.declared.driver.Buffers.{Buffers}
 use Rattle.rf233.specs.declared.driver.Driver.{Driver}
 use Rattle.rf233.specs.declared.driver.Under.TheVariants.{Register}
-use Rattle.rf233.proofs.Accepted.{arrived, not_refused, had_pool, had_transfer, had_bytes}
+use Rattle.rf233.specs.Arrived.{arrived_of}
+use Rattle.rf233.proofs.Accepted.{not_refused, had_pool, had_transfer, had_bytes}
 use Rattle.rf233.proofs.CommitLaws.{commit_begins, commit_step, Done, commit_done, ready_starts, ready_goes}
 use Rattle.rf233.proofs.FullPlace.{frame_named}
 use Rattle.rf233.proofs.OwnBuffers.{tx_home, rx_home, idle_is, register_is}
 use Rattle.rf233.proofs.Sound.{pool_right, driver_right}
-use Rattle.rf233.proofs.Starred.{In, Completes}
-use Rattle.rf233.proofs.StarredSteps.{Accepts, Goes}
+use Rattle.rf233.proofs.Starred.{Accepts, In, Completes}
+use Rattle.rf233.proofs.StarredSteps.{Goes}
 
 -- a register transfer is under way in state n, and no interrupt is handled or pending
 record Writing (n : ℕ) (d : Driver) : Type 0 where
@@ -116,7 +117,7 @@ module _ (d : Driver) (ready : In 29 d) where
       let a = accepts d xs p e in
       let named = rw ready at (frame_named d a.passes.fit) in
       let u = register_is d.buffers.under a.has_transfer named in
-      let g = ready_goes a u (ready_starts (arrived d xs p) d xs refl ready c i o) in
+      let g = ready_goes a u (ready_starts (arrived_of xs) d xs refl ready c i o) in
       record { transfer = g.sent.transfer; writing = goes u g }
 
 start : {d : Driver} {c : Called} → Starts d c → Sent 0 d c

@@ -16,7 +16,7 @@ use Rattle.rf233_const.specs.Register.{register_address}
 use Rattle.rf233_const.specs.declared.register.RF233Register.TheVariants.{TRX_STATUS}
 use Rattle.rf233.specs.Action.{actions}
 use Rattle.rf233.specs.Case.{case_of, perform, trees, tree_at}
-use Rattle.rf233.specs.Choice.{pick, one_of}
+use Rattle.rf233.specs.Choice.{pick, one_of, within}
 use Rattle.rf233.specs.Commit.{first_write, start_commit, commit_row}
 use Rattle.rf233.specs.CommitClaim.{row_sends, shows_no_frame}
 use Rattle.rf233.specs.Completion.{
@@ -27,6 +27,7 @@ use Rattle.rf233.specs.Completion.{
   pending_interrupt,
   waiting_commit,
   frame_done,
+  length_taken,
   transfer_over,
   now_on,
 }
@@ -49,12 +50,12 @@ use Rattle.rf233.specs.declared.state.InternalState.TheVariants.{CONFIG_SHORT0_S
 use Rattle.rf233.specs.declared.transfer.TransferKind.TheVariants as kind
 use Rattle.rf233.specs.declared.write.Value.TheVariants.{AddrLow}
 use Rattle.laws.proofs.Logic.{both_left, both_right, clash}
-use Rattle.rf233.proofs.Accepted.{arrived}
+use Rattle.rf233.specs.Arrived.{arrived_of}
 use Rattle.rf233.proofs.Conditions.{by_flag}
 use Rattle.rf233.proofs.OwnBuffers.{Plain, register_refrains, same_record}
 use Rattle.rf233.proofs.PoolLaws.{command_written_length}
-use Rattle.rf233.proofs.Starred.{In, Completes}
-use Rattle.rf233.proofs.StarredSteps.{sends, brought, Accepts, still, accepted_step, straight, unmoved, write_case, Goes}
+use Rattle.rf233.proofs.Starred.{Accepts, In, Completes}
+use Rattle.rf233.proofs.StarredSteps.{sends, brought, still, accepted_step, straight, unmoved, write_case, Goes}
 use Rattle.rf233.proofs.Tables.{in_range_lem}
 
 -- the start of a commit: with no transfer under way the first write begins
@@ -86,6 +87,7 @@ plain_at j h =
       names = in_range_lem (λ j. state_frame (45 + j)) (λ j. 0) 0 14 j refl (omega arith) h;
       sends = in_range_lem (λ j. one_of (33 ∷ 43 ∷ []) (45 + j)) (λ j. false) 0 14 j refl (omega arith) h;
       receives = in_range_lem (λ j. one_of (62 ∷ 64 ∷ 68 ∷ []) (45 + j)) (λ j. false) 0 14 j refl (omega arith) h;
+      reads_out = in_range_lem (λ j. within 65 68 (45 + j)) (λ j. false) 0 14 j refl (omega arith) h;
     }
 
 pub commit_state : (j : ℕ) → j < 13 → CommitState j
@@ -151,7 +153,7 @@ module _ (a : Arrived) (d : Driver) (xs : List ℕ) (result : a.result ≡ get_o
     unfolding completed ready_bookkeeping pending_interrupt waiting_commit pick
     after_access h =
         record {
-          from = now_on (transfer_over d);
+          from = now_on (transfer_over (length_taken a d));
           is = rw (h, unmoved 29 d.state (search) state, state, pending, commit);
           buffers = refl;
           settings = refl;
@@ -166,7 +168,7 @@ module _ (a : Arrived) (d : Driver) (xs : List ℕ) (result : a.result ≡ get_o
     unfolding completed interrupt_result interrupt_state frame_end ready_bookkeeping pending_interrupt waiting_commit frame_done pick
     after_interrupt h b e =
         record {
-          from = now_on (flagged receiving d.flags.receiving (transfer_over d));
+          from = now_on (flagged receiving d.flags.receiving (transfer_over (length_taken a d)));
           is = rw (h, state, result, b, e, state, pending, commit);
           buffers = refl;
           settings = refl;
@@ -183,7 +185,7 @@ module _ (a : Arrived) (d : Driver) (xs : List ℕ) (result : a.result ≡ get_o
 
 -- it sends the first write
 module _ {d : Driver} {xs p : List ℕ} (h : Accepts d xs p) (under : d.buffers.under ≡ Register)
-    (starts : StartsFrom d (completed (arrived d xs p) d))
+    (starts : StartsFrom d (completed (arrived_of xs) d))
   where
     ready_is : completion_call d xs p
         ≡ stepping (done_step (with_buffers (buffers_away Register d.buffers) (with_state CONFIG_SHORT0_SET starts.from))

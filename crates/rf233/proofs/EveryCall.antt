@@ -3,9 +3,13 @@
 -- driver with which such a step begins it is known what the call laid down (`Lays`). Assumes nothing.
 use Rattle.std.proofs.Common.{◌≡◌, ℕ, ◌+◌, true, false, not, T, eqb, leb, List, [], ◌∷◌, set, refl}
 use borrow.Author.Tests.{not-false}
-use Rattle.laws.proofs.Logic.{is_false}
+use Rattle.laws.proofs.Logic.{is_false, none_left, none_right}
+use mathlib.Core.Bool.{◌||◌}
+use Rattle.std.proofs.Common.{ap}
+use Rattle.rf233.specs.declared.reception.Reception.{Reception}
 use Rattle.rf233.specs.Action.{actions}
 use Rattle.rf233.specs.Answer.{answer_no, answer_of}
+use Rattle.rf233.specs.Arrived.{arrived_of}
 use Rattle.rf233.specs.Completion.{completed}
 use Rattle.rf233.specs.Config.{begin_start, start_call, begin_stop, stop_call, begin_commit, commit_call, reset_call, set_power}
 use Rattle.rf233.specs.Config.{set_channel}
@@ -17,17 +21,18 @@ use Rattle.rf233.specs.declared.driver.Buffers.{Buffers}
 use Rattle.rf233.specs.declared.driver.Clients.{Clients}
 use Rattle.std.specs.Prelude.{Bool, Some}
 use Rattle.rf233.specs.Described.{described}
+use Rattle.rf233.specs.Choice.{within}
 use Rattle.rf233.specs.Guard.{Called, refusing, stepping, pool_fault}
 use Rattle.rf233.specs.Interrupt.{handle_interrupt}
 use Rattle.rf233.specs.Kernel.{fired_call, completing, completion_call}
 use Rattle.rf233.specs.Pool.{start_of}
 use Rattle.rf233.specs.Starter.{register_transfer}
+use Rattle.rf233.specs.State.{state_no}
 use Rattle.rf233.specs.Step.{step_of, quiet}
 use Rattle.rf233.specs.Transfer.{to_complete}
 use Rattle.rf233.specs.declared.action.Action.{Action}
 use Rattle.rf233.specs.declared.action.Action.TheVariants.{ResetMakeOutput, SleepMakeOutput, ResetClear, ResetSet, SleepClear}
 use Rattle.rf233.specs.declared.answer.Outcome.{Outcome}
-use Rattle.rf233.specs.declared.arrived.Arrived.{Arrived}
 use Rattle.rf233.specs.declared.driver.Driver.{Driver}
 use Rattle.rf233.specs.declared.transfer.TransferKind.TheVariants as transfer
 use Rattle.rf233.proofs.ChoiceLaws.{branch, either}
@@ -114,29 +119,68 @@ lending (address_long l) = false
 lending (power t) = false
 lending (listener x v) = false
 
--- the driver e with which a call's step begins, made on d; a buffer is lent to receive into only where there is room
+-- a call is a completion
+abbrev pub ending : Call → Bool
+ending start = false
+ending stop = false
+ending commit = false
+ending fire = false
+ending query = false
+ending (complete xs) = true
+ending (transmit b l n) = false
+ending (receive_buffer b l) = false
+ending (reset v) = false
+ending (address a) = false
+ending (pan a) = false
+ending (channel c) = false
+ending (address_long l) = false
+ending (power t) = false
+ending (listener x v) = false
+
+-- the driver e with which a call's step begins, made on d: in one of the states 63 to 68, where a frame is read and announced, only if d is
+-- in it; a buffer is lent to receive into only where there is room. Of a completion, which ends a transfer, nothing is said
 pub record Lays (c : Call) (d e : Driver) : Type 0 where
   pub buffers : e.buffers ≡ laid c d.buffers
   pub clients : e.clients ≡ attending c d.clients
+  pub reception : e.reception ≡ d.reception
+  pub state : T (within 63 68 (state_no e.state)) → e.state ≡ d.state
   pub room : T (lending c) → rx_full d ≡ false
+  pub ends_none : ending c ≡ false
 
--- where it does not lend one
-lays : {c : Call} {d e : Driver} → e.buffers ≡ laid c d.buffers → e.clients ≡ attending c d.clients → lending c ≡ false → Lays c d e
-lays b k r = record { buffers = b; clients = k; room = λ t. absurd (rw r at t) }
+-- what it says of the driver's parts, as one
+abbrev parts : Driver → Buffers × (Clients × Reception)
+parts e = (e.buffers, (e.clients, e.reception))
 
--- a refusal leaves the record and the listeners
-pub left_buffers : (c : Call) (n : ℕ) (d : Driver) → (left_by c n d).buffers ≡ d.buffers
-left_buffers c n d = go (withdraws c n)
+abbrev laid_parts : Call → Driver → Buffers × (Clients × Reception)
+laid_parts c d = (laid c d.buffers, (attending c d.clients, d.reception))
+
+of_parts : {c : Call} {d e : Driver} → parts e ≡ laid_parts c d → (T (within 63 68 (state_no e.state)) → e.state ≡ d.state)
+    → lending c || ending c ≡ false → Lays c d e
+of_parts {c} q s n =
+    record {
+      buffers = ap (λ x. x.0) q;
+      clients = ap (λ x. x.1.0) q;
+      reception = ap (λ x. x.1.1) q;
+      state = s;
+      room = λ t. absurd (rw (none_left (lending c) _ n) at t);
+      ends_none = none_right (lending c) _ n;
+    }
+
+-- a call that lends no buffer to receive into, and is no completion; its state stays, or is another
+lays : {c : Call} {d e : Driver} → parts e ≡ laid_parts c d → e.state ≡ d.state → lending c || ending c ≡ false → Lays c d e
+lays {c} q s n = of_parts q (λ t. s) n
+
+moves : {c : Call} {d e : Driver} → parts e ≡ laid_parts c d → within 63 68 (state_no e.state) ≡ false → lending c || ending c ≡ false
+    → Lays c d e
+moves {c} q s n = of_parts q (λ t. absurd (rw s at t)) n
+
+-- a refusal leaves whatever a withdrawn stop leaves
+pub left_keeps : {A : Type 0} (f : Driver → A) (c : Call) (n : ℕ) (d : Driver) → f (flagged sleep_pending false d) ≡ f d
+    → f (left_by c n d) ≡ f d
+left_keeps f c n d e = go (withdraws c n)
   where
-    go : (w : Bool) → (cond w (flagged sleep_pending false d) d).buffers ≡ d.buffers
-    go true = refl
-    go false = refl
-
-pub left_clients : (c : Call) (n : ℕ) (d : Driver) → (left_by c n d).clients ≡ d.clients
-left_clients c n d = go (withdraws c n)
-  where
-    go : (w : Bool) → (cond w (flagged sleep_pending false d) d).clients ≡ d.clients
-    go true = refl
+    go : (w : Bool) → f (cond w (flagged sleep_pending false d) d) ≡ f d
+    go true = e
     go false = refl
 
 -- on this driver, with this pool
@@ -152,8 +196,8 @@ pub record OfCalls (d : Driver) (p : List ℕ) (P : Call → Called → Type 0) 
       → P c (with_pool (step_of (register_transfer transfer.RegisterWrite x y e) (actions [])) q)
   pub resets : (v : Bool) (e : Driver) (q : List ℕ) → Lays (reset v) d e → P (reset v) (with_pool (quiet e (actions reset_actions)) q)
   -- a completion of a driver value that refusal 12 does not describe
-  pub completes : (xs : List ℕ) (a : Arrived) (q : List ℕ) → described d ≡ false → to_complete d.buffers ≡ true
-      → P (complete xs) (with_pool (completed a d) q)
+  pub completes : (xs q : List ℕ) → described d ≡ false → to_complete d.buffers ≡ true
+      → P (complete xs) (with_pool (completed (arrived_of xs) d) q)
 
 module _ (d : Driver) (p : List ℕ) (P : Call → Called → Type 0) (of : OfCalls d p P) where
   -- a step, its transfer's command bytes written
@@ -169,7 +213,7 @@ module _ (d : Driver) (p : List ℕ) (P : Call → Called → Type 0) (of : OfCa
   of_start =
       either (P start) _ _ _ (of.refuses start 12 d tt refl refl)
       (either (P start) _ _ _
-      (either (Steps start) _ _ _ (of.reads start _ _ _ _ (lays refl refl refl)) (of.reads start _ _ _ _ (lays refl refl refl)))
+      (either (Steps start) _ _ _ (of.reads start _ _ _ _ (moves refl refl refl)) (of.reads start _ _ _ _ (lays refl refl refl)))
       (of.refuses start 6 _ tt refl refl))
 
   of_stop : P stop (stop_call d p)
@@ -177,7 +221,7 @@ module _ (d : Driver) (p : List ℕ) (P : Call → Called → Type 0) (of : OfCa
   of_stop =
       either (P stop) _ _ _ (of.refuses stop 12 d tt refl refl)
       (either (P stop) _ _ _ (of.refuses stop 6 d tt refl refl)
-      (either (Steps stop) _ _ _ (of.writes stop _ _ _ _ (lays refl refl refl)) (of.rests stop _ _ (lays refl refl refl))))
+      (either (Steps stop) _ _ _ (of.writes stop _ _ _ _ (moves refl refl refl)) (of.rests stop _ _ (lays refl refl refl))))
 
   of_commit : P commit (commit_call d p)
   unfolding commit_call begin_commit
@@ -185,7 +229,7 @@ module _ (d : Driver) (p : List ℕ) (P : Call → Called → Type 0) (of : OfCa
       either (P commit) _ _ _ (of.refuses commit 12 d tt refl refl)
       (either (Steps commit) _ _ _ (of.rests commit d _ (lays refl refl refl))
       (either (Steps commit) _ _ _
-      (commit_by (Steps commit) _ (of.writes commit _ _ _ _ (lays refl refl refl)) (of.rests commit _ _ (lays refl refl refl)))
+      (commit_by (Steps commit) _ (of.writes commit _ _ _ _ (moves refl refl refl)) (of.rests commit _ _ (lays refl refl refl)))
       (of.rests commit _ _ (lays refl refl refl))))
 
   of_fired : P fire (fired_call d p)
@@ -193,7 +237,7 @@ module _ (d : Driver) (p : List ℕ) (P : Call → Called → Type 0) (of : OfCa
   of_fired =
       either (P fire) _ _ _ (of.refuses fire 12 d tt refl refl)
       (either (Steps fire) _ _ _
-      (either (Steps fire) _ _ _ (of.writes fire _ _ _ _ (lays refl refl refl)) (of.reads fire _ _ _ _ (lays refl refl refl)))
+      (either (Steps fire) _ _ _ (of.writes fire _ _ _ _ (moves refl refl refl)) (of.reads fire _ _ _ _ (lays refl refl refl)))
       (of.rests fire _ _ (lays refl refl refl)))
 
   of_completion : (xs : List ℕ) → P (complete xs) (completion_call d xs p)
@@ -203,7 +247,7 @@ module _ (d : Driver) (p : List ℕ) (P : Call → Called → Type 0) (of : OfCa
       branch (P c) (pool_fault d p) _ _ (λ t. of.refuses c 12 d tt refl refl)
       (λ t. branch (P c) (not (to_complete d.buffers)) _ _ (λ i. of.refuses c 11 d tt refl refl)
       (λ i. either (P c) _ _ _ (of.refuses c 13 d tt refl refl)
-      (of.completes xs _ _ (driver_right d p (is_false (pool_fault d p) t))
+      (of.completes xs _ (driver_right d p (is_false (pool_fault d p) t))
       (not-false (to_complete d.buffers) (is_false (not (to_complete d.buffers)) i)))))
 
   of_transmit : (b l n : ℕ) → P (transmit b l n) (transmit_call d b l n p)
@@ -217,7 +261,7 @@ module _ (d : Driver) (p : List ℕ) (P : Call → Called → Type 0) (of : OfCa
       (either (P c) _ _ _ (of.refuses c 3 d tt refl refl)
       (either (P c) _ _ _ (of.refuses c 4 d tt refl refl)
       (either (P c) _ _ _ (of.refuses c 8 d tt refl refl)
-      (either (λ o. P c (stepping o (set p (start_of b + 1) (n + 2)))) _ _ _ (of.reads c _ _ _ _ (lays refl refl refl))
+      (either (λ o. P c (stepping o (set p (start_of b + 1) (n + 2)))) _ _ _ (of.reads c _ _ _ _ (moves refl refl refl))
       (of.rests c _ _ (lays refl refl refl)))))))))
 
   of_receive_buffer : (b l : ℕ) → Alone (receive_buffer b l) (receive_buffer_call d b l)
@@ -228,7 +272,14 @@ module _ (d : Driver) (p : List ℕ) (P : Call → Called → Type 0) (of : OfCa
       (either (Alone c) _ _ _ (of.refuses c 9 d tt refl refl)
       (branch (Alone c) (rx_full d) _ _ (λ t. of.refuses c 10 d tt refl refl)
       (λ t. either (Alone c) _ _ _ (of.refuses c 8 d tt refl refl)
-      (of.rests c _ _ (record { buffers = refl; clients = refl; room = λ r. is_false (rx_full d) t })))))
+      (of.rests c _ _ (record {
+        buffers = refl;
+        clients = refl;
+        reception = refl;
+        state = λ s. refl;
+        room = λ r. is_false (rx_full d) t;
+        ends_none = refl;
+      })))))
 
   pub every_call : (c : Call) → P c (made d c p)
   unfolding made reset_call set_power set_channel

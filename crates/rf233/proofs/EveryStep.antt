@@ -14,6 +14,7 @@ use Rattle.rf233.specs.Completion.{
   ready_bookkeeping,
   frame_end,
   interrupt_result,
+  length_taken,
   transfer_over,
   completed,
 }
@@ -84,7 +85,7 @@ module _ (P : Outcome → Type 0) (G : Driver → Type 0) (kept : Kept G) (ends 
   unfolding interrupt_result
   result a d g = either P _ _ _ (ready a d g) (frame a _ (kept.flags _ _ refl refl (kept.moves a d g)))
 
-  pub completion_by : (a : Arrived) (d : Driver) → G (transfer_over d) → P (completed a d)
+  pub completion_by : (a : Arrived) (d : Driver) → G (transfer_over (length_taken a d)) → P (completed a d)
   unfolding completed
   completion_by a d g = either P _ _ _ (result a _ g) (ready a _ g)
 

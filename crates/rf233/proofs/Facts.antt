@@ -9,22 +9,26 @@ use Rattle.rf233_const.specs.Bits.{bit_set}
 use Rattle.rf233_const.specs.Flags.{rx_crc_valid_bit}
 use Rattle.rf233.specs.Case.{handed, entering, without_tx, without_front, rotated}
 use Rattle.rf233.specs.Choice.{pick}
-use Rattle.rf233.specs.Completion.{buffers_back, frame_done, transfer_over}
+use Rattle.rf233.specs.Completion.{buffers_back, frame_done, length_taken, transfer_over}
 use Rattle.rf233.specs.Described.{frame_no}
 use Rattle.rf233.specs.Driver.{Flag, Assignment, flag_no, flag, set_flag, assigning, with_flags, with_buffers}
 use Rattle.rf233.specs.Driver.Assignment.{put, put_crc}
 use Rattle.rf233.specs.Driver.Flag.{transmitting, interrupt_handling, crc_valid}
 use Rattle.std.specs.Prelude.{is_some}
 use Rattle.rf233.specs.Line.{line, rotate, some}
+use Rattle.rf233.specs.Reception.{in_range, compared}
 use Rattle.rf233.specs.Rows.{Shown, Next}
 use Rattle.rf233.specs.Rows.Next.{same, to}
 use Rattle.rf233.specs.Rows.Shown.{plain, power_changed, config_done, sent_back, dropped_back, received_back, received_kept}
 use Rattle.rf233.specs.State.{state_no}
+use Rattle.rf233.specs.declared.arrived.Arrived.{Arrived}
 use Rattle.rf233.specs.declared.driver.Buffers.{Buffers}
 use Rattle.rf233.specs.declared.driver.Driver.{Driver}
 use Rattle.rf233.specs.declared.driver.Under.{Under}
 use Rattle.rf233.specs.declared.driver.Under.TheVariants.{Idle, Register, FrameRead, FrameWrite}
+use Rattle.rf233.specs.declared.reception.Reception.{Reception}
 use Rattle.rf233.specs.declared.state.InternalState.{InternalState}
+use Rattle.rf233.proofs.ChoiceLaws.{either}
 use Rattle.rf233.proofs.LineLaws.{some_is, some_rotate}
 
 -- no transfer, a register transfer, a frame read, a frame write
@@ -57,7 +61,7 @@ frame_no_lem (FrameRead x) = refl
 frame_no_lem (FrameWrite x) = refl
 
 -- the control facts: the kind of transfer under way, the state's number, whether there is a buffer in the transmit place and one in the
--- line, whether the driver is transmitting and whether it handles an interrupt
+-- line, whether the driver is transmitting, whether it handles an interrupt, and whether the held length is a frame's
 pub record Facts : Type 0 where
   pub transfer : Kind
   pub state : ℕ
@@ -65,29 +69,33 @@ pub record Facts : Type 0 where
   pub rx : Bool
   pub sends : Bool
   pub handles : Bool
+  pub in_range : Bool
 
--- the facts of these six
-abbrev pub facts : Kind → ℕ → Bool → Bool → Bool → Bool → Facts
-facts k n t r s h = record { transfer = k; state = n; tx = t; rx = r; sends = s; handles = h }
+-- the facts of these seven
+abbrev pub facts : Kind → ℕ → Bool → Bool → Bool → Bool → Bool → Facts
+facts k n t r s h g = record { transfer = k; state = n; tx = t; rx = r; sends = s; handles = h; in_range = g }
 
 -- the facts of a driver
 abbrev pub of : Driver → Facts
 of d =
     facts (kind d.buffers.under) (state_no d.state) (is_some d.buffers.tx_buf) (some (line d.buffers))
-    (flag transmitting d.flags) (flag interrupt_handling d.flags)
+    (flag transmitting d.flags) (flag interrupt_handling d.flags) (in_range d.reception)
 
--- the same with another transfer, in another state, with other places, with other flags
+-- the same with another transfer, in another state, with other places, with other flags, with another held length
 abbrev pub under : Kind → Facts → Facts
-under k c = facts k c.state c.tx c.rx c.sends c.handles
+under k c = facts k c.state c.tx c.rx c.sends c.handles c.in_range
 
 abbrev pub at : ℕ → Facts → Facts
-at n c = facts c.transfer n c.tx c.rx c.sends c.handles
+at n c = facts c.transfer n c.tx c.rx c.sends c.handles c.in_range
 
 abbrev pub holding : Bool → Bool → Facts → Facts
-holding t r c = facts c.transfer c.state t r c.sends c.handles
+holding t r c = facts c.transfer c.state t r c.sends c.handles c.in_range
 
 abbrev pub flags : Bool → Bool → Facts → Facts
-flags s h c = facts c.transfer c.state c.tx c.rx s h
+flags s h c = facts c.transfer c.state c.tx c.rx s h c.in_range
+
+abbrev pub ranging : Bool → Facts → Facts
+ranging g c = facts c.transfer c.state c.tx c.rx c.sends c.handles g
 
 -- ---- a row
 
@@ -208,7 +216,7 @@ done_no_lem false s = go (eqb (state_no s) 34) (eqb (state_no s) 63) (eqb (state
 abbrev pub back : Facts → Facts
 back c =
     facts nothing (done_no c.handles c.state) (eqb (frame_of c.transfer) 2 || c.tx) (eqb (frame_of c.transfer) 1 || c.rx)
-    c.sends false
+    c.sends false c.in_range
 
 -- the record's part of it
 record Returned (u : Under) (b c : Buffers) : Type 0 where
@@ -226,3 +234,13 @@ pub over_is : (d : Driver) → of (transfer_over d) ≡ back (of d)
 over_is d =
     let r = returned d.buffers.under d.buffers refl in
     rw (r.idle, r.tx, r.rx, done_no_lem (flag interrupt_handling d.flags) d.state)
+
+-- ---- what a frame read brings
+
+-- only in 63 does the held length become another
+pub taken_is : (a : Arrived) (d : Driver) → eqb (state_no d.state) 63 ≡ false → of (length_taken a d) ≡ of d
+unfolding pick
+taken_is a d z =
+    let e = d.reception in
+    ap (λ g. ranging g (of d))
+    (rw z (either (λ (v : Reception). in_range v ≡ in_range e) (eqb (state_no d.state) 65) (compared a.result e) e refl refl))

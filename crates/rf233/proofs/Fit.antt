@@ -7,14 +7,15 @@ use mathlib.Core.List.{List, [], ◌∷◌}
 use lib.Dec.{T, eqb, leb, ltb, ltb→lt}
 use lib.ListN.{length}
 use Rattle.rf233.specs.Case.{trees, tree_at}
-use Rattle.rf233.specs.Choice.{one_of}
+use Rattle.rf233.specs.Choice.{one_of, within}
+use Rattle.rf233.specs.Completion.{length_taken}
 use Rattle.rf233.specs.Driver.{flag}
 use Rattle.rf233.specs.Driver.Flag.{transmitting}
-use Rattle.rf233.specs.Rows.{Access, Shown, Row, holds}
+use Rattle.rf233.specs.Rows.{Access, Shown, Row}
 use Rattle.rf233.specs.Rows.Access.{none, reads, writes, reads_length, reads_frame, writes_frame}
 use Rattle.rf233.specs.Rows.Row.{does}
 use Rattle.rf233.specs.Rows.Shown.{plain, power_changed, config_done, sent_back, dropped_back, received_back, received_kept}
-use Rattle.rf233.specs.Rows.Test.{length_fits}
+use Rattle.rf233.specs.Reception.{in_range}
 use Rattle.rf233.specs.State.{state_no, state_frame}
 use Rattle.rf233.specs.declared.action.Action.{Action}
 use Rattle.rf233.specs.declared.action.Action.TheVariants as action
@@ -22,9 +23,11 @@ use Rattle.rf233.specs.declared.arrived.Arrived.{Arrived}
 use Rattle.rf233.specs.declared.driver.Driver.{Driver}
 use Rattle.laws.proofs.Logic.{left, right, pair, or_left, imp, apply, all, all_at, all_below, below_at}
 use Rattle.rf233.proofs.Facts.{Kind, kind, is_none, frame_of, Facts, facts, of, under, at, holding, flags, settled, prepared, back}
-use Rattle.rf233.proofs.Facts.{Fuller, fuller}
+use Rattle.rf233.proofs.Facts.{Fuller, fuller, ranging, taken_is}
+use Rattle.rf233.proofs.Conditions.{by_flag}
 use Rattle.rf233.proofs.Facts.Kind.{nothing, access, reading, writing}
-use Rattle.rf233.proofs.Trees.{leaves, row_at, row_of, known, known_so}
+use Rattle.rf233.proofs.Trees.{Known, leaves, row_of, known, row_known, same_self}
+use Rattle.std.specs.Prelude.{Some, None}
 
 -- states 33 and 35 to 43 have the transmit buffer in its place; 62, 64 and 66 to 68 a receive buffer in the line
 abbrev pub met : Facts → Bool
@@ -43,9 +46,13 @@ fits writing c = not c.tx && not c.handles
 abbrev pub framed : Facts → Bool
 framed c = eqb (frame_of c.transfer) (state_frame c.state)
 
--- the record fits the state
+-- in 65 to 68 the held length is a frame's
+abbrev pub held : Facts → Bool
+held c = imp (leb 65 c.state && leb c.state 68) c.in_range
+
+-- the driver's record and its held length fit the state
 unfoldable pub fit : Facts → Bool
-fit c = ltb c.state 69 && (framed c && fits c.transfer c)
+fit c = ltb c.state 69 && (framed c && (fits c.transfer c && held c))
 
 -- a test of the facts, and of which kinds of transfer it is asked
 abbrev pub Test : Type 0
@@ -80,7 +87,7 @@ kind_at f t writing = right (f reading) _ (right (f access) _ (right (f nothing)
 
 -- a test over all places and flags
 abbrev all_flags : Test → Kind → ℕ → Bool
-all_flags e k n = all λ t. all λ r. all λ s. all λ h. e (facts k n t r s h)
+all_flags e k n = all λ t. all λ r. all λ s. all λ h. all λ g. e (facts k n t r s h g)
 
 -- a test over all facts in state n, where the guard and the state's frame transfer allow them
 abbrev pub all_facts : Guard → Test → ℕ → Bool
@@ -92,14 +99,15 @@ pub facts_at : (g : Guard) (e : Test) → T (all_below (all_facts g e) 69) → (
 facts_at g e a c l y f =
     let n = c.state in
     let k = c.transfer in
-    all_at (λ h. e (facts k n c.tx c.rx c.sends h))
-    (all_at (λ s. all λ h. e (facts k n c.tx c.rx s h))
-    (all_at (λ r. all λ s. all λ h. e (facts k n c.tx r s h))
-    (all_at (λ t. all λ r. all λ s. all λ h. e (facts k n t r s h))
+    all_at (λ g. e (facts k n c.tx c.rx c.sends c.handles g))
+    (all_at (λ h. all λ g. e (facts k n c.tx c.rx c.sends h g))
+    (all_at (λ s. all λ h. all λ g. e (facts k n c.tx c.rx s h g))
+    (all_at (λ r. all λ s. all λ h. all λ g. e (facts k n c.tx r s h g))
+    (all_at (λ t. all λ r. all λ s. all λ h. all λ g. e (facts k n t r s h g))
     (apply (framed c) (all_flags e k n)
     (apply (g k) (imp (framed c) (all_flags e k n))
     (kind_at (λ k. imp (g k) (imp (eqb (frame_of k) (state_frame n)) (all_flags e k n))) (below_at (all_facts g e) 69 a n l) k) y) f)
-    c.tx) c.rx) c.sends) c.handles
+    c.tx) c.rx) c.sends) c.handles) c.in_range
 
 -- q holds wherever the record fits the state and p holds
 abbrev tested : Test → Test → Test
@@ -151,34 +159,36 @@ ok_shown (dropped_back ∷ more) c = c.tx && ok_shown more (holding false c.rx c
 ok_shown (received_back ∷ more) c = c.rx && ok_shown more (holding c.tx false c)
 ok_shown (received_kept ∷ more) c = c.rx && ok_shown more (holding c.tx false c)
 
--- an access carried out while no transfer is under way leaves what fits, as if there were no more than one buffer in the line; f: the
--- length is in its range; c: the facts before it
-abbrev pub ok_access : Access → Bool → Facts → Bool
-ok_access none f c = fit c
-ok_access (reads x) f c = fit (under access c)
-ok_access (writes x v) f c = fit (under access c)
-ok_access reads_length f c = c.rx && fit (holding c.tx false (under reading c))
-ok_access reads_frame f c = f && (c.rx && fit (holding c.tx false (under reading c)))
-ok_access writes_frame f c = c.tx && fit (holding false c.rx (under writing c))
+-- an access carried out while no transfer is under way leaves what fits, as if there were no more than one buffer in the line; c: the
+-- facts before it
+abbrev pub ok_access : Access → Facts → Bool
+ok_access none c = fit c
+ok_access (reads x) c = fit (under access c)
+ok_access (writes x v) c = fit (under access c)
+ok_access reads_length c = c.rx && fit (holding c.tx false (under reading c))
+ok_access reads_frame c = c.in_range && (c.rx && fit (holding c.tx false (under reading c)))
+ok_access writes_frame c = c.tx && fit (holding false c.rx (under writing c))
 
 -- a row likewise
-abbrev pub ok_row : Bool → Facts → Row → Bool
-ok_row f c (does l x m sh) = (leb (length sh) 6 && ok_shown sh (settled l m c)) && ok_access x f (prepared l m sh c)
+abbrev pub ok_row : Facts → Row → Bool
+ok_row c (does l x m sh) = (leb (length sh) 6 && ok_shown sh (settled l m c)) && ok_access x (prepared l m sh c)
+
+-- what the facts tell of the tests
+abbrev by_facts : Facts → Known
+by_facts c = record { fits = Some c.in_range; spoiled = None; sends = Some c.sends; hears = None }
 
 -- THE TEST OF THE 69 ROWS: each state's case leads to rows that leave what fits
-all_rows : Follows resting always (λ c. all λ f. leaves (known f c.sends) (ok_row f c) (tree_at c.state))
+all_rows : Follows resting always (λ c. leaves (known (by_facts c)) (ok_row c) (tree_at c.state))
 unfolding fit tree_at trees
 all_rows = law tt
 
 -- at every state and whatever arrives
-pub row_fits : (a : Arrived) (d : Driver) → T (fit (of d)) → T (is_none (kind d.buffers.under))
-    → T (ok_row (holds length_fits a d) (of d) (row_of a d))
+pub row_fits : (a : Arrived) (d : Driver) → T (fit (of d)) → T (is_none (kind d.buffers.under)) → T (ok_row (of d) (row_of a d))
 row_fits a d o i =
-    let u = tree_at (state_no d.state) in
-    let f = holds length_fits a d in
     let s = flag transmitting d.flags in
-    row_at (known f s) (ok_row f (of d)) a d (known_so a d) u
-    (all_at (λ f. leaves (known f s) (ok_row f (of d)) u) (all_rows.gives (of d) o i tt) f)
+    row_known (by_facts (of d)) (ok_row (of d)) a d
+    (record { fits = same_self (in_range d.reception); spoiled = tt; sends = same_self s; hears = tt })
+    (all_rows.gives (of d) o i tt)
 
 -- The phases of a completion, and the calls, each by the same test.
 
@@ -225,6 +235,17 @@ to_28 = law tt
 pub to_42 : Follows resting (λ c. eqb c.state 40) (λ c. fit (at 42 c))
 unfolding fit
 to_42 = law tt
+
+-- in 63 any length may become the held one
+any_length : Follows any (λ c. eqb c.state 63) (λ c. all λ g. fit (ranging g c))
+unfolding fit
+any_length = law tt
+
+pub taken_fits : (a : Arrived) (d : Driver) → T (fit (of d)) → T (fit (of (length_taken a d)))
+taken_fits a d o =
+    by_flag (eqb (state_no d.state) 63)
+    (λ e. all_at (λ g. fit (ranging g (of d))) (any_length.gives (of d) o tt (rw e tt)) (of (length_taken a d)).in_range)
+    (λ e. subst (λ c. T (fit c)) (sym (taken_is a d e)) o)
 
 -- the buffers return
 pub return_fits : Follows busy always (λ c. fit (back c))
@@ -291,29 +312,40 @@ fuller_fits {c} {e} f o = subst (λ x. T (fit x)) (sym f.same) (go f.more)
     go false = rw or-false o
 
 -- of an access likewise
-pub fuller_access : (x : Access) (f : Bool) {c e : Facts} → Fuller c e → T (ok_access x f c) → T (ok_access x f e)
-fuller_access x f {c} {e} p o = subst (λ z. T (ok_access x f z)) (sym p.same) (go x o)
+pub fuller_access : (x : Access) {c e : Facts} → Fuller c e → T (ok_access x c) → T (ok_access x e)
+fuller_access x {c} {e} p o = subst (λ z. T (ok_access x z)) (sym p.same) (go x o)
   where
     w : (k : Kind) → Fuller (under k c) (under k (fuller p.more c))
     w k = record { more = p.more; same = refl }
 
-    go : (x : Access) → T (ok_access x f c) → T (ok_access x f (fuller p.more c))
+    go : (x : Access) → T (ok_access x c) → T (ok_access x (fuller p.more c))
     go none o = fuller_fits (record { more = p.more; same = refl }) o
     go (reads r) o = fuller_fits (w access) o
     go (writes r v) o = fuller_fits (w access) o
     go reads_length o = pair (c.rx || p.more) _ (or_left c.rx p.more (left c.rx _ o)) (right c.rx _ o)
     go reads_frame o =
-        let m = right f _ o in
-        pair f _ (left f _ o) (pair (c.rx || p.more) _ (or_left c.rx p.more (left c.rx _ m)) (right c.rx _ m))
+        let g = c.in_range in
+        let m = right g _ o in
+        pair g _ (left g _ o) (pair (c.rx || p.more) _ (or_left c.rx p.more (left c.rx _ m)) (right c.rx _ m))
     go writes_frame o = pair c.tx _ (left c.tx _ o) (fuller_fits (record { more = p.more; same = refl }) (right c.tx _ o))
 
--- what refusal 12 asks of state, transfer and places
+-- while a frame is read out and announced the held length is a frame's; from the end of the length read on there is a receive buffer
+pub held_in_range : Follows any (λ c. leb 65 c.state && leb c.state 68) (λ c. c.in_range)
+unfolding fit
+held_in_range = law tt
+
+pub buffer_there : Follows any (λ c. leb 64 c.state && leb c.state 68) (λ c. c.rx || eqb (frame_of c.transfer) 1)
+unfolding fit
+buffer_there = law tt
+
+-- what refusal 12 asks of state, transfer, places and held length
 pub fit_frame : Follows any always
     (λ c. framed c && not (ltb 0 (frame_of c.transfer) && c.handles))
 unfolding fit
 fit_frame = law tt
 
 pub fit_places : Follows any always
-    (λ c. not ((one_of (33 ∷ 43 ∷ []) c.state && not c.tx) || (one_of (62 ∷ 64 ∷ 68 ∷ []) c.state && not c.rx)))
+    (λ c. not (((one_of (33 ∷ 43 ∷ []) c.state && not c.tx) || (one_of (62 ∷ 64 ∷ 68 ∷ []) c.state && not c.rx))
+    || (within 65 68 c.state && not c.in_range)))
 unfolding fit
 fit_places = law tt

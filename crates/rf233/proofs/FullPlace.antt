@@ -33,6 +33,7 @@ use Rattle.rf233.specs.Described.{
   frame_no,
   frame_unfit,
   buffer_missing,
+  held_length_bad,
   described,
 }
 use Rattle.rf233.specs.Interrupt.{interrupt_state}
@@ -184,7 +185,7 @@ module _ (d : Driver) (e : described d ≡ false) where
   abbrev h : Bool
   h = d.flags.interrupt_handling
 
-  last_clauses : frame_unfit b.under n h || buffer_missing b n ≡ false
+  last_clauses : frame_unfit b.under n h || (buffer_missing b n || held_length_bad d.reception n) ≡ false
   unfolding described
   last_clauses =
       none_right (crowded b) _
@@ -192,7 +193,10 @@ module _ (d : Driver) (e : described d ≡ false) where
       (none_right (length_bad b) _ (none_right (client_above b) _ (none_right (own_nowhere b) _ (none_right (recorded_twice b) _ e)))))
 
   unfit : frame_unfit b.under n h ≡ false
-  unfit = none_left (frame_unfit b.under n h) (buffer_missing b n) last_clauses
+  unfit = none_left (frame_unfit b.under n h) _ last_clauses
+
+  missing_none : buffer_missing b n ≡ false
+  missing_none = none_left (buffer_missing b n) _ (none_right (frame_unfit b.under n h) _ last_clauses)
 
   pub frame_named : eqb (frame_no b.under) (state_frame n) ≡ true
   frame_named = not-false (eqb (frame_no b.under) (state_frame n)) (none_left (not (eqb (frame_no b.under) (state_frame n))) _ unfit)
@@ -201,7 +205,7 @@ module _ (d : Driver) (e : described d ≡ false) where
   over =
       let c = of d in
       let with-frame = ltb 0 (frame_no b.under) && h in
-      let found : T (not (gone c)) = rw (none_right (frame_unfit b.under n h) (buffer_missing b n) last_clauses) tt in
+      let found : T (not (gone c)) = rw missing_none tt in
       let framed-so : T (framed c) = rw (← frame_no_lem b.under, frame_named) tt in
       let clear : T (not (ltb 0 (frame_of (kind b.under)) && h)) =
       rw (← frame_no_lem b.under, none_right (not (eqb (frame_no b.under) (state_frame n))) with-frame unfit) tt in

@@ -69,7 +69,7 @@ module _ (e : Driver) (i : e.buffers.under ≡ Idle) where
   access_turn (reads r) a l = register_turn _ _ _ e
   access_turn (writes r v) a l = register_turn _ _ _ e
   access_turn reads_length a l = read_turn (front (line e.buffers)) 0 refl
-  access_turn reads_frame a l = read_turn (front (line e.buffers)) a.result refl
+  access_turn reads_frame a l = read_turn (front (line e.buffers)) e.reception.length refl
   access_turn writes_frame a l = write_turn e.buffers.tx_buf
 
 -- the transfer is over

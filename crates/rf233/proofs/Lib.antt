@@ -9,10 +9,12 @@ pub mod Facts
 pub mod Fit
 pub mod EveryStep
 pub mod RowLaws
+pub mod ReceptionLaws
 pub mod PoolLaws
 pub mod Sound
 pub mod Accepted
 pub mod Starred
+pub mod StarredLengths
 pub mod StarredProofs
 pub mod StarredCommit
 pub mod OwnBuffers

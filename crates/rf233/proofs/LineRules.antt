@@ -67,12 +67,12 @@ pub record LineRules : Type 0 where
   -- once a frame read is over its buffer is in front again
   pub returned : (d : Driver) (xs p : List ℕ) (x : Lent) → Completes (FrameRead x) 65 d xs p
       → front (line (completion_call d xs p).outcome.driver.buffers) ≡ Some x
-  -- "hand back the one it filled wherever the old step handed back its one": the front
-  pub handed : (d : Driver) (xs p : List ℕ) (x : Lent) → Completes Register 68 d xs p → d.clients.rx_client ≡ true
-      → front (line d.buffers) ≡ Some x
+  -- "hand back the one it filled wherever the old step handed back its one": the front, of a frame that is not spoiled
+  pub handed : (d : Driver) (xs p : List ℕ) (x : Lent) → Completes Register 68 d xs p → d.reception.spoiled ≡ false
+      → d.clients.rx_client ≡ true → front (line d.buffers) ≡ Some x
       → let o = (completion_call d xs p).outcome in (line o.driver.buffers ≡ behind (line d.buffers)) × HandsBack x.buffer o.reply.actions
   -- "a received buffer without a listener goes to the end of the line"
-  pub turned : (d : Driver) (xs p : List ℕ) → Completes Register 68 d xs p → d.clients.rx_client ≡ false
+  pub turned : (d : Driver) (xs p : List ℕ) → Completes Register 68 d xs p → d.reception.spoiled ≡ false → d.clients.rx_client ≡ false
       → Leaves (rotate (line d.buffers)) (actions []) (completion_call d xs p).outcome
 
 pub line_rules : LineRules
@@ -93,13 +93,13 @@ line_rules =
       returned = λ d xs p x h.
           let own = frame_home d h.passes.fit x h.is_under_way in
           rw (straight h 66 refl (rw h.state) refl, h.is_under_way, own.0, own.1) (front_is (x ∷ line d.buffers));
-      handed = λ d xs p x h c f.
-          rw (straight h 68 refl (rw h.state h.state) refl, c)
+      handed = λ d xs p x h s c f.
+          rw (straight h 68 refl (rw h.state h.state) refl, h.state, s, c)
           (by_flag d.flags.transmitting
           (λ t. rw (t, h.is_under_way, f) (listed_behind d.buffers.rx_line, record { length = _; crc = _; notice = refl }))
           (λ t. rw (t, h.is_under_way, f) (listed_behind d.buffers.rx_line, record { length = _; crc = _; notice = refl })));
-      turned = λ d xs p h c.
-          rw (straight h 68 refl (rw h.state h.state) refl, c)
+      turned = λ d xs p h s c.
+          rw (straight h 68 refl (rw h.state h.state) refl, h.state, s, c)
           (by_flag d.flags.transmitting
           (λ t. rw (t, h.is_under_way) (record { remain = listed_rotate d.buffers.rx_line; shown = refl }))
           (λ t. rw (t, h.is_under_way) (record { remain = listed_rotate d.buffers.rx_line; shown = refl })));

@@ -54,7 +54,8 @@ use Rattle.rf233.specs.declared.driver.Under.TheVariants.{Idle, Register, FrameR
 use Rattle.rf233.specs.declared.transfer.TransferKind.{TransferKind}
 use Rattle.laws.proofs.Logic.{all_below}
 use Rattle.rf233.proofs.ChoiceLaws.{either}
-use Rattle.rf233.proofs.EveryCall.{Lays, every_call, laid, left_buffers, lending}
+use Rattle.rf233.specs.Arrived.{arrived_of}
+use Rattle.rf233.proofs.EveryCall.{Lays, every_call, laid, left_keeps, lending}
 use Rattle.rf233.proofs.RowLaws.{entering_record, handed_keeps}
 use Rattle.rf233.proofs.EveryStep.{Ends, Kept, commit_by, completion_by}
 use Rattle.rf233.proofs.Sound.{uncrowded}
@@ -196,7 +197,7 @@ module _ (xs : List ℕ) where
 -- ---- the calls
 
 -- what a call lays down
-laid_moved : (c : Call) (d : Driver) → (T (lending c) → rx_full d ≡ false) → Moved c (in_turn d.buffers) (in_turn (laid c d.buffers))
+pub laid_moved : (c : Call) (d : Driver) → (T (lending c) → rx_full d ≡ false) → Moved c (in_turn d.buffers) (in_turn (laid c d.buffers))
 laid_moved start d r = stays
 laid_moved stop d r = stays
 laid_moved commit d r = stays
@@ -227,12 +228,12 @@ module _ (d : Driver) where
       every_call d p (λ c t. Moves c t.outcome.driver) (record {
         refuses = λ c n e t z same.
             subst (λ b. Moved c (in_turn d.buffers) (in_turn b))
-            (sym (ap (λ (e : Driver). e.buffers) same ∙ left_buffers c (answer_no (answer_of n)) d)) stays;
+            (sym (ap (λ (e : Driver). e.buffers) same ∙ left_keeps (λ d. d.buffers) c (answer_no (answer_of n)) d refl)) stays;
         rests = λ c e q y. begun c e y;
         reads = λ c x z e q y. subst (Moved c (in_turn d.buffers)) (sym (register_turn _ _ _ e)) (begun c e y);
         writes = λ c x z e q y. subst (Moved c (in_turn d.buffers)) (sym (register_turn _ _ _ e)) (begun c e y);
         resets = λ v e q y. begun (reset v) e y;
-        completes = λ xs a q e i. completion_moves xs a d e;
+        completes = λ xs q e i. completion_moves xs (arrived_of xs) d e;
       }) c
 
 -- ---- one buffer

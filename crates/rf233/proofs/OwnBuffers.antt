@@ -143,17 +143,18 @@ pub register_refrains : (d : Driver) (k : TransferKind) (x y : ℕ) → free_to_
 unfolding register_transfer pick
 register_refrains d k x y i = rw i
 
--- a state that names no frame transfer and takes no buffer
+-- a state that names no frame transfer, takes no buffer and asks nothing of the held length
 pub record Plain (n : ℕ) : Type 0 where
   pub names : state_frame n ≡ 0
   pub sends : one_of (33 ∷ 43 ∷ []) n ≡ false
   pub receives : one_of (62 ∷ 64 ∷ 68 ∷ []) n ≡ false
+  pub reads_out : within 65 68 n ≡ false
 
 -- from one such state to another, the record the same, 12 describes the driver as little as before
 pub moved : (n m : ℕ) (d e : Driver) → Plain n → Plain m → state_no d.state ≡ n → state_no e.state ≡ m → d.buffers.under ≡ Register
     → e.buffers ≡ d.buffers → described e ≡ described d
 unfolding described
-moved n m d e c f s t u b = rw (b, u, s, t, c.names, c.sends, c.receives, f.names, f.sends, f.receives)
+moved n m d e c f s t u b = rw (b, u, s, t, c.names, c.sends, c.receives, f.names, f.sends, f.receives, c.reads_out, f.reads_out)
 
 -- a new driver
 pub new_fit : (l c : ℕ) → within 129 160 l ≡ true → described (new_driver l c) ≡ false

@@ -14,6 +14,7 @@ use Rattle.rf233.proofs.ChoiceLaws.{branch, either}
 use Rattle.rf233.specs.Calls.{Call, made, with_pool}
 use Rattle.rf233.specs.Calls.Call.{complete, reset}
 use Rattle.rf233.specs.Refusal.{TurnedDown, left_by, answered, RefusedAltersNothing, RefusedNew, HeldIsRefused}
+use Rattle.rf233.specs.Arrived.{arrived_of}
 use Rattle.rf233.proofs.EveryCall.{every_call}
 
 module _ (d : Driver) (p : List ℕ) where
@@ -33,7 +34,7 @@ module _ (d : Driver) (p : List ℕ) where
         reads = λ c x y e q s. done c _ refl;
         writes = λ c x y e q s. done c _ refl;
         resets = λ v e q s. done (reset v) _ refl;
-        completes = λ xs a q e i. done (complete xs) _ (done_completed a d);
+        completes = λ xs q e i. done (complete xs) _ (done_completed (arrived_of xs) d);
       })
 
 -- DEMAND 1

@@ -15,7 +15,7 @@ use Rattle.rf233.specs.Record.{one, tx_under_way, rx_under_way}
 use Rattle.rf233.specs.State.{state_no, state_frame}
 use Rattle.rf233.specs.Described.{is_above, slot_above, under_slot, named_in, meets, repeats, receive_length_bad, own_wrong}
 use Rattle.rf233.specs.Described.{tx_length_bad, rx_length_bad, length_bad, held_besides, crowded, frame_no, frame_unfit, frame_bad}
-use Rattle.rf233.specs.Described.{buffer_missing, described, by_place}
+use Rattle.rf233.specs.Described.{buffer_missing, held_length_bad, described, by_place}
 use Rattle.rf233.specs.Choice.{within}
 use Rattle.rf233.specs.declared.driver.Buffers.{Buffers}
 use Rattle.rf233.specs.declared.driver.Driver.{Driver}
@@ -87,7 +87,7 @@ in_clauses =
     (any_of (any_of (any_of (test 6) (test 10)) (any_of (test 11) (test 7)))
     (any_of (test 8)
     (any_of (any_of (test 0) (any_of (test 1) (any_of (test 3) (any_of (test 12) (any_of (test 5) (test 13))))))
-    (any_of (test 14) (any_of (test 15) (any_of (any_of (test 17) (test 16)) (test 18)))))))
+    (any_of (test 14) (any_of (test 15) (any_of (any_of (test 17) (test 16)) (any_of (test 18) (test 19))))))))
 
 abbrev in_places : Tests
 in_places =
@@ -95,7 +95,7 @@ in_places =
     (any_of (any_of (any_of (test 4) (test 5)) (any_of (test 7) (test 6)))
     (any_of (any_of (test 8) (any_of (test 9) (any_of (test 10) (any_of (test 11)
     (any_of (test 12) (any_of (test 13) (any_of (test 14) (any_of (test 15) (test 16)))))))))
-    (any_of (test 17) (test 18))))))
+    (any_of (test 17) (any_of (test 18) (test 19)))))))
 
 module _ (d : Driver) where
   abbrev r : Buffers
@@ -119,14 +119,18 @@ module _ (d : Driver) where
   abbrev handling : Bool
   handling = d.flags.interrupt_handling
 
-  -- spi_buf's two lengths; the places, the line and what both name; the transfer and its buffer; the state
+  abbrev length_unfit : Bool
+  length_unfit = held_length_bad d.reception (state_no d.state)
+
+  -- spi_buf's two lengths; the places, the line and what both name; the transfer and its buffer; the state; the held length
   abbrev tests : List Bool
   tests =
       not (within 129 160 r.spi_buf_whole) ∷ not (within 2 r.spi_buf_whole r.spi_buf_len) ∷ slot_above tx
       ∷ tx_length_bad tx r.tx_len ∷ lines.any_of is_above rx ∷ lines.any_of receive_length_bad rx
       ∷ meets (named_in tx) (names rx) ∷ repeats (names rx) ∷ own_wrong r.under r ∷ slot_above going
       ∷ meets (named_in tx) (named_in going) ∷ meets (names rx) (named_in going) ∷ tx_length_bad (tx_under_way r.under) r.tx_len
-      ∷ rx_length_bad (rx_under_way r.under) ∷ held_besides r ∷ crowded r ∷ (ltb 0 (frame_no r.under) && handling) ∷ unfit ∷ missing ∷ []
+      ∷ rx_length_bad (rx_under_way r.under) ∷ held_besides r ∷ crowded r ∷ (ltb 0 (frame_no r.under) && handling) ∷ unfit ∷ missing
+      ∷ length_unfit ∷ []
 
   pub regrouped : by_place d ≡ described d
   unfolding described
@@ -134,5 +138,5 @@ module _ (d : Driver) where
       rw (← frame_asked r.tx_len handling rx (listed_most r.rx_line) r.under tx, any_two is_above receive_length_bad rx)
       (logic.regrouped (of tests) in_places in_clauses tt tt
       ∙ sym (uncounted r
-      (length_bad r || (held_besides r || (crowded r || (frame_unfit r.under (state_no d.state) handling || missing))))
+      (length_bad r || (held_besides r || (crowded r || (frame_unfit r.under (state_no d.state) handling || (missing || length_unfit)))))
       ∙ rw (← pairs tx going (names rx))))

@@ -11,7 +11,9 @@ use lib.ListN.{length}
 use Rattle.rf233.specs.Pool.{read_buffer, write_length, read_length, shorter}
 use Rattle.rf233.specs.Line.{line_room, line, any_of}
 use Rattle.rf233.specs.Described.{is_above, slot_above, under_slot, client_above, recorded_twice, own_nowhere, length_bad, held_besides}
-use Rattle.rf233.specs.Described.{crowded, described}
+use Rattle.rf233.specs.Described.{crowded, frame_unfit, buffer_missing, described}
+use Rattle.rf233.specs.Reception.{in_range}
+use Rattle.rf233.specs.State.{state_no}
 use Rattle.rf233.specs.Record.{receive_count}
 use Rattle.rf233.specs.Choice.{within}
 use Rattle.rf233.specs.Guard.{pool_fault}
@@ -82,3 +84,15 @@ uncrowded d e =
     let clauses = none_right (own_nowhere r) _ (none_right (recorded_twice r) _ e) in
     let held = none_right (length_bad r) _ (none_right (client_above r) _ clauses) in
     omega (arith, ltb-false line_room (receive_count r) (none_left (crowded r) _ (none_right (held_besides r) _ held)))
+
+-- while a frame is read out and announced the held length is a frame's
+pub held_right : (d : Driver) → described d ≡ false → within 65 68 (state_no d.state) ≡ true → in_range d.reception ≡ true
+unfolding described
+held_right d e s =
+    let r = d.buffers in
+    let n = state_no d.state in
+    let clauses = none_right (own_nowhere r) _ (none_right (recorded_twice r) _ e) in
+    let counts = none_right (crowded r) _ (none_right (held_besides r) _
+    (none_right (length_bad r) _ (none_right (client_above r) _ clauses))) in
+    let bad = none_right (buffer_missing r n) _ (none_right (frame_unfit r.under n d.flags.interrupt_handling) _ counts) in
+    not-false (in_range d.reception) (rw s at bad)

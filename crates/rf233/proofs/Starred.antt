@@ -1,11 +1,12 @@
 -- Document 01, "Corners in rf233.rs": the cases marked *, as one table in document 01's order, those on the PAN and on a commit as request
--- 2026-02 has altered them. Each line quotes its corner, or the request's words, and says it of the definitions that the public calls
--- promise, for every driver, pool and bytes that meet the corner's condition. The theorem `starred` of StarredProofs.antt proves the
--- table; StarredOccur.antt shows that its conditions occur. Assumes nothing.
+-- 2026-02 has altered them, and those on a received length as request 2026-13 has. Each line quotes its corner, or the request's words, and
+-- says it of the definitions that the public calls promise, for every driver, pool and bytes that meet the corner's condition. The theorem
+-- `starred` of StarredProofs.antt proves the table; StarredOccur.antt shows that its conditions occur. Assumes nothing.
 use mathlib.Core.Path.{◌≡◌}
 use mathlib.Core.Bool.{Bool, true, false}
 use mathlib.Core.List.{List, [], ◌∷◌, map}
-use Prim.Native.Nat.{ℕ, zero, suc, ◌+◌, ◌/◌, ◌%◌, ◌≤◌}
+use Prim.Native.Nat.{ℕ, zero, suc, ◌+◌, ◌-◌, ◌/◌, ◌%◌, ◌≤◌}
+use lib.Dec.{eqb}
 use lib.IntN.{ℤ, pos}
 use lib.ListN.{length, get_or}
 use Rattle.std.specs.Prelude.{Option, None, Some, option_map}
@@ -24,13 +25,15 @@ use Rattle.rf233.specs.Create.{new_call}
 use Rattle.rf233.specs.Power.{minus, setting_to_power, power_to_setting}
 use Rattle.rf233.specs.Record as rec
 use Rattle.rf233.specs.Described.{described}
-use Rattle.rf233.specs.Line.{line, front}
+use Rattle.rf233.specs.Line.{line, front, behind}
 use Rattle.rf233.specs.Record.{lent, record_has}
 use Rattle.rf233.specs.State.{state_no}
-use Rattle.rf233.specs.Transfer.{transfer_of, free_to_start}
-use Rattle.rf233.specs.declared.action.Action.TheVariants.{Sent}
+use Rattle.rf233.specs.Transfer.{transfer_of, free_to_start, to_complete}
+use Rattle.rf233.specs.declared.action.Action.TheVariants.{Sent, Received}
+use Rattle.rf233.specs.declared.action.Actions.{Actions}
 use Rattle.rf233.specs.declared.answer.Answer.TheVariants.{Done}
 use Rattle.rf233.specs.declared.driver.Driver.{Driver}
+use Rattle.rf233.specs.declared.driver.Lent.{Lent}
 use Rattle.rf233.specs.declared.driver.Settings.{Settings}
 use Rattle.rf233.specs.declared.driver.Under.{Under}
 use Rattle.rf233.specs.declared.driver.Under.TheVariants.{Idle, Register, FrameRead}
@@ -61,6 +64,12 @@ pub record MaySend (d : Driver) (b : ℕ) (p : List ℕ) : Type 0 where
   pub not_transmitting : d.flags.transmitting ≡ false
   pub clients : b ≤ 15
   pub new : record_has d.buffers b ≡ false
+
+-- none of 12, 11 and 13 refuses the completion
+pub record Accepts (d : Driver) (xs p : List ℕ) : Type 0 where
+  pub passes : Passes12 d p
+  pub has_transfer : to_complete d.buffers ≡ true
+  pub arrived : arrived_bad xs d.buffers ≡ false
 
 -- the transfer u, under way in state n, completes with bytes that it can bring (refusal 13), while no interrupt is being handled or pending
 pub record Completes (u : Under) (n : ℕ) (d : Driver) (xs p : List ℕ) : Type 0 where
@@ -127,6 +136,40 @@ abbrev pub NotReadOut : ℕ → Type 0
 NotReadOut n =
     (d : Driver) (xs p : List ℕ) (b l : ℕ) → Completes (FrameRead (lent b l)) 63 d xs p → get_or xs 1 0 ≡ n
     → (completion_call d xs p).outcome.reply.transfer ≡ Some (transfer_of kind.RegisterRead 16 17 0x81 0x00 2 2)
+
+-- after a detour in RX_READING_FRAME_LEN_DONE, the same by the held length n
+abbrev pub DetourReadOut : ℕ → Type 0
+DetourReadOut n =
+    (d : Driver) (xs p : List ℕ) (b l : ℕ) → Detours 64 d xs p → front (line d.buffers) ≡ Some (lent b l) → d.reception.length ≡ n
+    → ReadsOut n b l (completion_call d xs p)
+
+abbrev pub DetourNotReadOut : ℕ → Type 0
+DetourNotReadOut n =
+    (d : Driver) (xs p : List ℕ) → Detours 64 d xs p → d.reception.length ≡ n
+    → (completion_call d xs p).outcome.reply.transfer ≡ Some (transfer_of kind.RegisterRead 16 17 0x81 0x00 2 2)
+
+-- once the frame read is over: the frame is spoiled, or not; nothing is announced, the buffer is in front again, PHY_RSSI is read
+pub record Frame (spoiled : Bool) (x : Lent) (c : Called) : Type 0 where
+  pub spoils : c.outcome.driver.reception.spoiled ≡ spoiled
+  pub shows_nothing : c.outcome.reply.actions ≡ actions []
+  pub held : front (line c.outcome.driver.buffers) ≡ Some x
+  pub asks : c.outcome.reply.transfer ≡ Some (transfer_of kind.RegisterRead 16 17 0x86 0x00 2 2)
+  pub state : In 67 c.outcome.driver
+
+-- the frame read completes with the second length byte n: the frame is spoiled
+abbrev pub SpoiledBy : ℕ → Type 0
+SpoiledBy n =
+    (d : Driver) (xs p : List ℕ) (x : Lent) → Completes (FrameRead x) 65 d xs p → get_or xs 1 0 ≡ n
+    → Frame true x (completion_call d xs p)
+
+-- once RX_ENABLING_RECEPTION is over: these buffers are in the line, these actions are shown, a waiting stop is withdrawn, reception is
+-- over, TRX_STATUS is read
+pub record EndsReception (l : List Lent) (shown : Actions) (c : Called) : Type 0 where
+  pub remain : line c.outcome.driver.buffers ≡ l
+  pub shows : c.outcome.reply.actions ≡ shown
+  pub asks : c.outcome.reply.transfer ≡ Some (transfer_of kind.RegisterRead 16 17 0x81 0x00 2 2)
+  pub not_receiving : c.outcome.driver.flags.receiving ≡ false
+  pub no_stop : c.outcome.driver.flags.sleep_pending ≡ false
 
 -- completions one after another: completion k brings ys k to the driver and the pool that the call before left
 unfoldable pub run : (ℕ → List ℕ) → ℕ → Called → Called
@@ -213,6 +256,30 @@ pub record StarredCases : Type 0 where
   pub length_127 : ReadOut 127
   pub length_10 : NotReadOut 10
   pub length_128 : NotReadOut 128
-  -- "After an interrupt detour the IRQ_STATUS value is taken for the length."
-  pub length_detour : (d : Driver) (xs p : List ℕ) (b l : ℕ) → Detours 64 d xs p → front (line d.buffers) ≡ Some (lent b l)
-      → 11 ≤ get_or xs 1 0 → get_or xs 1 0 ≤ 127 → ReadsOut (get_or xs 1 0) b l (completion_call d xs p)
+  -- 2026-13: "The length is now held from the length read over any detour". The end of the length read holds its byte 1, whatever is
+  -- pending or handled; no other completion alters it; after a detour the same lengths are read out, whatever IRQ_STATUS shows but bit 2
+  pub length_held : (d : Driver) (xs p : List ℕ) → Accepts d xs p → In 63 d
+      → (completion_call d xs p).outcome.driver.reception.length ≡ get_or xs 1 0
+  pub length_stays : (d : Driver) (xs p : List ℕ) → Accepts d xs p → eqb (state_no d.state) 63 ≡ false
+      → (completion_call d xs p).outcome.driver.reception.length ≡ d.reception.length
+  pub detour_11 : DetourReadOut 11
+  pub detour_127 : DetourReadOut 127
+  pub detour_10 : DetourNotReadOut 10
+  pub detour_128 : DetourNotReadOut 128
+  -- 2026-13: "the second byte is compared as its frame read completes. Exactly one that differs spoils the reception": 0, 1, any other but
+  -- the held length
+  pub second_0 : SpoiledBy 0
+  pub second_1 : SpoiledBy 1
+  pub second_same : (d : Driver) (xs p : List ℕ) (x : Lent) → Completes (FrameRead x) 65 d xs p → get_or xs 1 0 ≡ d.reception.length
+      → Frame false x (completion_call d xs p)
+  pub second_differs : (d : Driver) (xs p : List ℕ) (x : Lent) → Completes (FrameRead x) 65 d xs p
+      → eqb (get_or xs 1 0) d.reception.length ≡ false
+      → Frame true x (completion_call d xs p)
+  -- "the frame is not announced and the buffer stays held at its place in the line; all else, flags too, goes on as before"
+  pub not_announced : (d : Driver) (xs p : List ℕ) → Completes Register 68 d xs p → d.reception.spoiled ≡ true
+      → EndsReception (line d.buffers) (actions []) (completion_call d xs p)
+  -- "The notice gives the held length less 2"
+  pub announced : (d : Driver) (xs p : List ℕ) (x : Lent) → Completes Register 68 d xs p → d.reception.spoiled ≡ false
+      → d.clients.rx_client ≡ true → front (line d.buffers) ≡ Some x
+      → EndsReception (behind (line d.buffers)) (actions (Received x.buffer (d.reception.length - 2) d.flags.crc_valid ∷ []))
+      (completion_call d xs p)

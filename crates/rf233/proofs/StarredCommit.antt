@@ -33,7 +33,7 @@ use Rattle.rf233.specs.declared.driver.Under.TheVariants.{Register}
 use Rattle.rf233.specs.declared.transfer.Transfer.{Transfer}
 use Rattle.rf233.specs.declared.transfer.TransferKind.TheVariants as kind
 use Rattle.rf233.specs.declared.write.Value.TheVariants.{AddrLow}
-use Rattle.rf233.proofs.Accepted.{arrived}
+use Rattle.rf233.specs.Arrived.{arrived_of}
 use Rattle.rf233.proofs.CommitClaim.{commit_claim}
 use Rattle.rf233.proofs.CommitLaws.{
   commit_waits,
@@ -46,8 +46,8 @@ use Rattle.rf233.proofs.CommitLaws.{
 }
 use Rattle.rf233.proofs.Keys.{range}
 use Rattle.rf233.proofs.OwnBuffers.{moved}
-use Rattle.rf233.proofs.Starred.{Passes12, In, Completes, Detours, Sends, run, bytes_sent, BothBytes, commit_sends}
-use Rattle.rf233.proofs.StarredSteps.{unguarded, Accepts, accepts, is_accepted, Goes, next}
+use Rattle.rf233.proofs.Starred.{Accepts, Passes12, In, Completes, Detours, Sends, run, bytes_sent, BothBytes, commit_sends}
+use Rattle.rf233.proofs.StarredSteps.{unguarded, accepts, is_accepted, Goes, next}
 use Rattle.rf233.proofs.Tables.{in_range_lem, same_list}
 
 -- the second byte of a write, from what is known of the settings
@@ -95,8 +95,8 @@ of_interrupt {xs = xs} h a =
 
 -- a commit waits
 module _ {d : Driver} {xs p : List ℕ} (h : InReady d xs p) (waiting : d.flags.config_pending ≡ true) where
-  starts : StartsFrom d (completed (arrived d xs p) d)
-  starts = ready_starts (arrived d xs p) d xs refl h.state waiting h.pending h.no_frame_lem
+  starts : StartsFrom d (completed (arrived_of xs) d)
+  starts = ready_starts (arrived_of xs) d xs refl h.state waiting h.pending h.no_frame_lem
 
   first_goes : Goes 0xE0 (value_of AddrLow d.settings) 45 d (completion_call d xs p)
   first_goes = ready_goes h.accepts h.is_under_way starts

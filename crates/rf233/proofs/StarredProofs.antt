@@ -1,68 +1,48 @@
 -- The starred cases of document 01 hold: `starred` proves the table of Starred.antt, corner by corner. Assumes nothing.
 use mathlib.Core.Path.{◌≡◌, refl, ap}
-use mathlib.Core.Bool.{true, false, ◌&&◌, and-false}
-use mathlib.Core.List.{List, ◌∷◌}
-use Prim.Native.Nat.{ℕ, ◌+◌, ◌≤◌}
-use native.Mathlib.Omega.{arith}
-use lib.Dec.{leb}
-use lib.ListN.{length, get_or, set}
-use borrow.Author.Tests.{le-leb, le-ltb}
-use Rattle.rf233_const.specs.Bits.{bit_set}
+use mathlib.Core.Bool.{true, ◌&&◌}
+use mathlib.Core.List.{List}
+use Prim.Native.Nat.{ℕ, ◌+◌}
+use lib.ListN.{length, set}
+use borrow.Author.Tests.{le-ltb}
 use Rattle.std.specs.Prelude.{Some}
 use Rattle.rf233.specs.Choice.{pick, within}
 use Rattle.rf233.specs.Guard.{stepping, refusing}
 use Rattle.rf233.specs.Config.{channel_fits, begin_start, start_call, set_power}
-use Rattle.rf233.specs.Kernel.{completing, completion_call}
 use Rattle.rf233.specs.Data.{begin_transmit, transmit_call}
-use Rattle.rf233.specs.Completion.{
-  completed,
-  ready_bookkeeping,
-  pending_interrupt,
-  waiting_commit,
-  frame_done,
-  transfer_over,
-  interrupt_result,
-  frame_end,
-}
-use Rattle.rf233.specs.Interrupt.{interrupt_state}
-use Rattle.rf233.specs.Driver.{flagged}
-use Rattle.rf233.specs.Driver.Flag.{receiving}
+use Rattle.rf233.specs.Completion.{frame_done}
 use Rattle.rf233.specs.Case.{case_of, perform, trees, tree_at}
 use Rattle.rf233.specs.Transmit.{acknowledged, failed}
 use Rattle.rf233.specs.Create.{new_call, new_driver}
 use Rattle.rf233.specs.Pool.{start_of}
 use Rattle.rf233.specs.Rows.{eval, holds}
-use Rattle.rf233.specs.Line.{line, front}
 use Rattle.rf233.specs.Record.{lent}
-use Rattle.rf233.specs.Transfer.{transfer_of}
-use Rattle.rf233.specs.Starter.{register_transfer, frame_read_into}
+use Rattle.rf233.specs.Starter.{register_transfer}
 use Rattle.rf233.specs.declared.answer.Outcome.{Outcome}
-use Rattle.rf233.specs.declared.arrived.Arrived.{Arrived}
 use Rattle.rf233.specs.declared.driver.Driver.{Driver}
 use Rattle.rf233.specs.declared.driver.Under.TheVariants.{Idle}
 use Rattle.rf233.specs.declared.starter.Started.{Started}
 use Rattle.rf233.specs.declared.transfer.TransferKind.TheVariants as kind
 use Rattle.laws.proofs.Logic.{both_left}
 use Rattle.rf233.proofs.ChoiceLaws.{either}
-use Rattle.rf233.proofs.Accepted.{arrived}
-use Rattle.rf233.proofs.LineLaws.{front_is}
 use Rattle.rf233.proofs.Conditions.{by_flag}
-use Rattle.rf233.proofs.OwnBuffers.{tx_home, rx_home, buf_home, frame_home, new_fit}
+use Rattle.rf233.proofs.OwnBuffers.{tx_home, rx_home, new_fit}
 use Rattle.rf233.proofs.StarredSteps.{unguarded, sends, straight, write_case}
-use Rattle.rf233.proofs.StarredCommit.{second, high, low, of_access, of_interrupt, both_bytes, during, busy, whole}
-use Rattle.rf233.proofs.Starred.{
-  Passes12,
-  In,
-  MaySend,
-  Detours,
-  Sends,
-  Takes,
-  Told,
-  ReadsOut,
-  ReadOut,
-  NotReadOut,
-  StarredCases,
+use Rattle.rf233.proofs.StarredLengths.{
+  read_out,
+  not_read_out,
+  held,
+  stays,
+  detoured,
+  detour_not_out,
+  below_range,
+  same,
+  differs,
+  silent,
+  told_length,
 }
+use Rattle.rf233.proofs.StarredCommit.{second, high, low, of_access, of_interrupt, both_bytes, during, busy, whole}
+use Rattle.rf233.proofs.Starred.{Passes12, In, MaySend, Sends, Takes, Told, StarredCases}
 
 -- `transmit`: its refusals in order, none of which applies but the named one
 module _ {d : Driver} {b : ℕ} {p : List ℕ} (h : MaySend d b p) where
@@ -117,46 +97,6 @@ unfolding case_of tree_at trees eval holds perform register_transfer frame_done 
 told result d xs p b l h t x s r =
     rw (straight h 43 refl (rw h.state h.state) refl, s, t, h.is_under_way, x, r)
 
--- RX_READING_FRAME_LEN_DONE
-read_out : (n : ℕ) → leb 11 n ≡ true → leb n 127 ≡ true → ReadOut n
-unfolding case_of tree_at trees eval holds perform frame_read_into frame_done pick
-read_out n e f d xs p b l h r =
-    rw (straight h 64 refl (rw h.state) refl, r, e, f, h.is_under_way, front_is (lent b l ∷ line d.buffers))
-    (record { transfer = ap (λ (k : ℕ). Some (transfer_of kind.FrameRead 18 b 0x20 n k l)) (omega arith); state = refl })
-
-not_read_out : (n : ℕ) → leb 11 n && leb n 127 ≡ false → NotReadOut n
-unfolding case_of tree_at trees eval holds perform register_transfer frame_done pick
-not_read_out n e d xs p b l h r =
-    let own = frame_home d h.passes.fit (lent b l) h.is_under_way in
-    rw (straight h 64 refl (rw h.state) refl, r, e)
-    (by_flag d.flags.transmitting (λ t. rw (t, h.is_under_way, own.0, own.1)) (λ t. rw (t, h.is_under_way, own.0, own.1)))
-
--- an interrupt's detour in 64: the result passes on to the case of the same state
-detour : (a : Arrived) (d : Driver) (xs p : List ℕ) → Detours 64 d xs p → a.result ≡ get_or xs 1 0
-    → completed a d ≡ case_of 64 a (flagged receiving false (transfer_over d))
-unfolding completed interrupt_result interrupt_state frame_end ready_bookkeeping pending_interrupt waiting_commit frame_done pick
-detour a d xs p h r =
-    rw (h.handling, h.state, r, h.no_start, h.no_frame_lem, and-false (bit_set 3 (get_or xs 1 0)), h.state, h.pending, and-false)
-
-detoured : (d : Driver) (xs p : List ℕ) (b l : ℕ) → Detours 64 d xs p → front (line d.buffers) ≡ Some (lent b l) → 11 ≤ get_or xs 1 0
-    → get_or xs 1 0 ≤ 127
-    → ReadsOut (get_or xs 1 0) b l (completion_call d xs p)
-unfolding completion_call completing case_of tree_at trees eval holds perform frame_read_into pick
-detoured d xs p b l h x e f =
-    let own = buf_home d h.passes.fit (rw h.is_under_way) in
-    rw (
-      unguarded d p _ h.passes,
-      h.arrived,
-      detour (arrived d xs p) d xs p h refl,
-      le-leb 11 (get_or xs 1 0) e,
-      le-leb (get_or xs 1 0) 127 f,
-      h.is_under_way,
-    )
-    (record {
-      transfer = rw (x, own) (ap (λ (k : ℕ). Some (transfer_of kind.FrameRead 18 b 0x20 (get_or xs 1 0) k l)) (omega arith));
-      state = rw (x, own);
-    })
-
 pub starred : StarredCases
 unfolding set_power tree_at trees pick
 starred =
@@ -190,5 +130,16 @@ starred =
       length_127 = read_out 127 refl refl;
       length_10 = not_read_out 10 refl;
       length_128 = not_read_out 128 refl;
-      length_detour = detoured;
+      length_held = held;
+      length_stays = stays;
+      detour_11 = detoured 11 refl refl;
+      detour_127 = detoured 127 refl refl;
+      detour_10 = detour_not_out 10 refl;
+      detour_128 = detour_not_out 128 refl;
+      second_0 = below_range 0 refl;
+      second_1 = below_range 1 refl;
+      second_same = same;
+      second_differs = differs;
+      not_announced = silent;
+      announced = told_length;
     }

@@ -16,8 +16,9 @@ use Rattle.rf233_const.specs.declared.register.RF233Register.{RF233Register}
 use Rattle.rf233.specs.Choice.{pick}
 use Rattle.rf233.specs.Guard.{Called, accepted, stepping, guarded}
 use Rattle.rf233.specs.Described.{described}
-use Rattle.rf233.specs.Kernel.{completing, completion_call, arrived_bad}
-use Rattle.rf233.specs.Completion.{completed, ready_bookkeeping, pending_interrupt, waiting_commit, frame_done, transfer_over}
+use Rattle.rf233.specs.Kernel.{completing, completion_call}
+use Rattle.rf233.specs.Completion.{completed, ready_bookkeeping, pending_interrupt, waiting_commit}
+use Rattle.rf233.specs.Completion.{frame_done, length_taken, transfer_over}
 use Rattle.rf233.specs.Case.{case_of, perform, tree_at}
 use Rattle.rf233.specs.Pool.{command_written, copied, read_buffer, shorter}
 use Rattle.rf233.specs.Rows.{eval}
@@ -26,7 +27,7 @@ use Rattle.rf233.specs.Rows.Next.{to}
 use Rattle.rf233.specs.Rows.Row.{does}
 use Rattle.rf233.specs.Rows.Tree.{leaf}
 use Rattle.rf233.specs.State.{state_no}
-use Rattle.rf233.specs.Transfer.{kind_value, transfer_of, under_way, to_complete}
+use Rattle.rf233.specs.Transfer.{kind_value, transfer_of, under_way}
 use Rattle.rf233.specs.Starter.{register_transfer}
 use Rattle.rf233.specs.Write.{value_of}
 use Rattle.rf233.specs.declared.answer.Outcome.{Outcome}
@@ -39,11 +40,12 @@ use Rattle.rf233.specs.declared.transfer.TransferKind.TheVariants as kind
 use Rattle.rf233.specs.declared.write.Value.{Value}
 use Rattle.rf233.specs.declared.state.InternalState.{InternalState}
 use Rattle.laws.proofs.Logic.{none_right}
-use Rattle.rf233.proofs.Accepted.{arrived, done_is_accepted, done_completed}
+use Rattle.rf233.specs.Arrived.{arrived_of}
+use Rattle.rf233.proofs.Accepted.{done_is_accepted, done_completed}
 use Rattle.rf233.proofs.OwnBuffers.{Plain, moved, same_record}
 use Rattle.rf233.proofs.PoolLaws.{command_written_length, copied_length}
 use Rattle.rf233.proofs.Sound.{read_fits, shorter_fits}
-use Rattle.rf233.proofs.Starred.{Passes12, In, Completes, Sends}
+use Rattle.rf233.proofs.Starred.{Passes12, In, Accepts, Completes, Sends}
 
 -- a call that 12 does not stop
 pub unguarded : (d : Driver) (p : List ℕ) (c : Called) → Passes12 d p → guarded d p c ≡ c
@@ -71,12 +73,6 @@ sends {k} {first} {second} o q l f t s =
 abbrev pub brought : Driver → List ℕ → List ℕ → List ℕ
 brought d xs p = copied (read_buffer d.buffers.under) xs p
 
--- none of 12, 11 and 13 refuses the completion
-pub record Accepts (d : Driver) (xs p : List ℕ) : Type 0 where
-  pub passes : Passes12 d p
-  pub has_transfer : to_complete d.buffers ≡ true
-  pub arrived : arrived_bad xs d.buffers ≡ false
-
 module _ {d : Driver} {xs p : List ℕ} (h : Accepts d xs p) where
   pub still : length (brought d xs p) ≡ 3040
   still =
@@ -86,12 +82,12 @@ module _ {d : Driver} {xs p : List ℕ} (h : Accepts d xs p) where
       ∙ h.passes.pool
 
   -- the step is made
-  pub accepted_step : completion_call d xs p ≡ stepping (completed (arrived d xs p) d) (brought d xs p)
+  pub accepted_step : completion_call d xs p ≡ stepping (completed (arrived_of xs) d) (brought d xs p)
   unfolding completion_call completing pick
   accepted_step = rw (unguarded d p _ h.passes, h.arrived, h.has_transfer)
 
   pub is_accepted : accepted (completion_call d xs p) ≡ true
-  is_accepted = ap accepted accepted_step ∙ done_is_accepted (completed (arrived d xs p) d) (done_completed (arrived d xs p) d)
+  is_accepted = ap accepted accepted_step ∙ done_is_accepted (completed (arrived_of xs) d) (done_completed (arrived_of xs) d)
 
 -- a completion while no interrupt is being handled or pending
 module _ {u : Under} {n : ℕ} {d : Driver} {xs p : List ℕ} (h : Completes u n d xs p) where
@@ -100,7 +96,7 @@ module _ {u : Under} {n : ℕ} {d : Driver} {xs p : List ℕ} (h : Completes u n
 
   -- outside READY it is the own case of the state m that the transfer leaves
   pub straight : (m : ℕ) → under_way u ≡ true → state_no (frame_done false d.state) ≡ m → eqb m 29 ≡ false
-      → completion_call d xs p ≡ stepping (case_of m (arrived d xs p) (transfer_over d)) (brought d xs p)
+      → completion_call d xs p ≡ stepping (case_of m (arrived_of xs) (transfer_over (length_taken (arrived_of xs) d))) (brought d xs p)
   unfolding completed ready_bookkeeping pending_interrupt waiting_commit pick
   straight m i s e =
       rw (accepted_step (accepts i), h.handling, s, e, h.pending, and-false)

@@ -23,7 +23,8 @@ use Rattle.rf233.specs.declared.answer.Outcome.{Outcome}
 use Rattle.rf233.specs.declared.driver.Driver.{Driver}
 use Rattle.rf233.specs.declared.driver.Settings.{Settings}
 use Rattle.rf233.specs.declared.transfer.Transfer.{Transfer}
-use Rattle.rf233.proofs.Accepted.{arrived, past, fired_accepted, completion_accepted, had_transfer}
+use Rattle.rf233.specs.Arrived.{arrived_of}
+use Rattle.rf233.proofs.Accepted.{past, fired_accepted, completion_accepted, had_transfer}
 use Rattle.rf233.proofs.ChoiceLaws.{branch, either}
 use Rattle.laws.proofs.Logic.{left, is_true, both_left, both_right, none_left, none_right, clash}
 use Rattle.rf233.specs.Calls.{Call, made}
@@ -204,14 +205,14 @@ module _ {s : Seen} {d : Driver} (k : Stands s d) (xs p : List ℕ) (e : accepte
   abbrev t : Seen
   t = at_completion xs (completion_call d xs p).outcome s
 
-  pub number_next : number t ≡ next (arrived d xs p) (n k)
+  pub number_next : number t ≡ next (arrived_of xs) (n k)
   number_next =
       subst (λ b. number t ≡ suc (n k) + pick b (skipped (Some (chip_status (get_or xs 0 0)))) 0) (out_at_2 k)
       (next_number s.status (last_reads TRX_STATUS s.sent) (chip_status (get_or xs 0 0)) s.completions (cond s.fired 2 0))
 
   pub after_completion : shows_lock s xs ≡ true → Stands t (after (completion_call d xs p))
   after_completion b =
-      let a = arrived d xs p in
+      let a = arrived_of xs in
       let c = (completion_call d xs p).outcome in
       let o = completion_accepted d xs p e ∙ ap (completed a) k.is in
       let away = not-true _ (sym (transfer_is k) ∙ had_transfer d xs p e) in

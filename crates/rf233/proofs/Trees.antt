@@ -19,10 +19,14 @@ use Rattle.rf233.specs.Driver.Flag.{
   power_client_pending,
 }
 use Rattle.rf233.specs.Rows.{Test, Row, Tree, holds, eval}
-use Rattle.rf233.specs.Rows.Test.{status_in, length_fits, is_set, listens}
+use Rattle.rf233.specs.Rows.Test.{status_in, length_fits, is_spoiled, is_set, listens}
 use Rattle.rf233.specs.Rows.Tree.{leaf, ask}
+use Rattle.rf233.specs.Reception.{in_range}
 use Rattle.rf233.specs.State.{state_no}
+use Rattle.std.specs.Prelude.{Option, None, Some}
 use Rattle.rf233.specs.declared.arrived.Arrived.{Arrived}
+use Rattle.rf233.specs.declared.driver.Client.{Client}
+use Rattle.rf233.specs.declared.driver.Client.TheVariants.{Transmit, Receive, Config, Power}
 use Rattle.rf233.specs.declared.driver.Driver.{Driver}
 use Rattle.laws.proofs.Logic.{left, right, imp, apply, all_below, below_at}
 use Rattle.rf233.proofs.Keys.{state_below}
@@ -67,37 +71,71 @@ row_of_lem p t a d =
     let n = state_no d.state in
     row_at unknown (p n) a d (λ c. tt) (tree_at n) (below_at (λ n. leaves unknown (p n) (tree_at n)) 69 t n (state_below d.state))
 
--- ---- where it is known whether the length is in its range (f) and whether the driver is transmitting (s)
+-- ---- where some of the answers are known
+
+-- of the held length, the spoiled frame, the send that waits, the receive listener; None: not known
+pub record Known : Type 0 where
+  pub fits : Option Bool
+  pub spoiled : Option Bool
+  pub sends : Option Bool
+  pub hears : Option Bool
 
 abbrev same : Bool → Bool → Bool
 same a b = cond a b (not b)
 
-same_self : (a : Bool) → T (same a a)
+pub same_self : (a : Bool) → T (same a a)
 same_self true = tt
 same_self false = tt
 
-abbrev pub known : Bool → Bool → Possible
-known f s (status_in l) v = true
-known f s length_fits v = same f v
-known f s (is_set g) v = imp (eqb (flag_no g) (flag_no transmitting)) (same s v)
-known f s (listens c) v = true
+abbrev pub allows : Option Bool → Bool → Bool
+allows None v = true
+allows (Some w) v = same w v
 
-flag_so : (d : Driver) (g : Flag)
-    → T (imp (eqb (flag_no g) (flag_no transmitting)) (same (flag transmitting d.flags) (flag g d.flags)))
-flag_so d radio_on = tt
-flag_so d transmitting = same_self d.flags.transmitting
-flag_so d receiving = tt
-flag_so d crc_valid = tt
-flag_so d interrupt_handling = tt
-flag_so d interrupt_pending = tt
-flag_so d config_pending = tt
-flag_so d sleep_pending = tt
-flag_so d wake_pending = tt
-flag_so d power_client_pending = tt
+abbrev told_by : Option Bool → Client → Bool → Bool
+told_by h Transmit v = true
+told_by h Receive v = allows h v
+told_by h Config v = true
+told_by h Power v = true
 
-pub known_so : (a : Arrived) (d : Driver) (c : Test) → T (known (holds length_fits a d) (flag transmitting d.flags) c (holds c a d))
+abbrev pub known : Known → Possible
+known k (status_in l) v = true
+known k length_fits v = allows k.fits v
+known k is_spoiled v = allows k.spoiled v
+known k (is_set g) v = imp (eqb (flag_no g) (flag_no transmitting)) (allows k.sends v)
+known k (listens x) v = told_by k.hears x v
+
+-- what is known is so of the driver
+pub record Knows (k : Known) (d : Driver) : Type 0 where
+  pub fits : T (allows k.fits (in_range d.reception))
+  pub spoiled : T (allows k.spoiled d.reception.spoiled)
+  pub sends : T (allows k.sends (flag transmitting d.flags))
+  pub hears : T (allows k.hears d.clients.rx_client)
+
+flag_so : (k : Known) (d : Driver) → Knows k d → (g : Flag)
+    → T (imp (eqb (flag_no g) (flag_no transmitting)) (allows k.sends (flag g d.flags)))
+flag_so k d h radio_on = tt
+flag_so k d h transmitting = h.sends
+flag_so k d h receiving = tt
+flag_so k d h crc_valid = tt
+flag_so k d h interrupt_handling = tt
+flag_so k d h interrupt_pending = tt
+flag_so k d h config_pending = tt
+flag_so k d h sleep_pending = tt
+flag_so k d h wake_pending = tt
+flag_so k d h power_client_pending = tt
+
+pub known_so : (k : Known) (a : Arrived) (d : Driver) → Knows k d → (c : Test) → T (known k c (holds c a d))
 unfolding holds
-known_so a d (status_in l) = tt
-known_so a d length_fits = same_self (holds length_fits a d)
-known_so a d (is_set g) = flag_so d g
-known_so a d (listens c) = tt
+known_so k a d h (status_in l) = tt
+known_so k a d h length_fits = h.fits
+known_so k a d h is_spoiled = h.spoiled
+known_so k a d h (is_set g) = flag_so k d h g
+known_so k a d h (listens Transmit) = tt
+known_so k a d h (listens Receive) = h.hears
+known_so k a d h (listens Config) = tt
+known_so k a d h (listens Power) = tt
+
+-- the row of the driver's state passes what every leaf passes that what is known lets be reached
+pub row_known : (k : Known) (p : Row → Bool) (a : Arrived) (d : Driver) → Knows k d → T (leaves (known k) p (tree_at (state_no d.state)))
+    → T (p (row_of a d))
+row_known k p a d h t = row_at (known k) p a d (known_so k a d h) (tree_at (state_no d.state)) t

@@ -44,7 +44,7 @@ show a d power_changed l = pick (client listener.Power d.clients) (Power d.flags
 show a d config_done l = pick (client listener.Config d.clients) (ConfigDone ∷ l) l
 show a d sent_back l = send_done d.buffers.tx_buf a.result ∷ l
 show a d dropped_back l = Dropped (buffer_in d.buffers.tx_buf) ∷ l
-show a d received_back l = received a.length d ∷ l
+show a d received_back l = received d ∷ l
 show a d received_kept l = l
 
 -- the actions of a row, in order
@@ -81,7 +81,7 @@ accessed none a l d = quiet d l
 accessed (reads r) a l d = step_of (register_read r d) l
 accessed (writes r v) a l d = step_of (register_write r (value_of v d.settings) d) l
 accessed reads_length a l d = step_of (frame_read 0 d) l
-accessed reads_frame a l d = step_of (frame_read a.result d) l
+accessed reads_frame a l d = step_of (frame_read d.reception.length d) l
 accessed writes_frame a l d = step_of (frame_write d) l
 
 -- the driver in the next state

@@ -1,11 +1,11 @@
--- The order of a completion (document 01, "What a step does"): buffer return, interrupt result, READY bookkeeping, pending interrupt,
--- waiting commit, the state's own case. Each phase stands behind the one that it hands on to.
+-- The order of a completion (document 01, "What a step does"): buffer return, and with it what a frame read brought of a length, interrupt
+-- result, READY bookkeeping, pending interrupt, waiting commit, the state's own case. Each phase stands behind the one that it hands on to.
 use Rattle.std.specs.Prelude.{ℕ, Bool, true, false, not, ◌&&◌, ◌||◌, [], ◌∷◌, eqb, Some}
 use Rattle.rf233_const.specs.declared.register.RF233Register.TheVariants.{MIN, TRX_STATUS}
 use Rattle.rf233.specs.Case.{own_case}
 use Rattle.rf233.specs.Choice.{pick, one_of}
 use Rattle.rf233.specs.Commit.{start_commit}
-use Rattle.rf233.specs.Driver.{flag, flagged, assigning, with_state, with_buffers, in_no}
+use Rattle.rf233.specs.Driver.{flag, flagged, assigning, with_state, with_buffers, with_reception, in_no}
 use Rattle.rf233.specs.Driver.{with_registers, with_spi_buf, with_tx, with_line, with_under}
 use Rattle.rf233.specs.Driver.Assignment.{put}
 use Rattle.rf233.specs.Driver.Flag.{
@@ -20,6 +20,7 @@ use Rattle.rf233.specs.Driver.Flag.{
 }
 use Rattle.rf233.specs.Interrupt.{handle_interrupt, rx_start, trx_end, interrupt_state}
 use Rattle.rf233.specs.Line.{line, some}
+use Rattle.rf233.specs.Reception.{frame_read_over}
 use Rattle.rf233.specs.State.{state_no}
 use Rattle.rf233.specs.Step.{transition_read}
 use Rattle.rf233.specs.declared.answer.Outcome.{Outcome}
@@ -95,7 +96,12 @@ transfer_over d =
     (with_state (frame_done (flag interrupt_handling d.flags) d.state)
     (with_buffers (buffers_back d.buffers.under d.buffers) d))
 
+-- the driver with what a frame read brought of a reception (request 2026-13)
+abbrev pub length_taken : Arrived → Driver → Driver
+length_taken a d = with_reception (frame_read_over (state_no d.state) a.result d.reception) d
+
 -- a completion, once its bytes have been copied
 unfoldable pub completed : Arrived → Driver → Outcome
 completed a d =
-    pick (flag interrupt_handling d.flags) (interrupt_result a (transfer_over d)) (ready_bookkeeping a (transfer_over d))
+    let e = transfer_over (length_taken a d) in
+    pick (flag interrupt_handling d.flags) (interrupt_result a e) (ready_bookkeeping a e)

@@ -14,7 +14,7 @@ use Rattle.rf233.specs.declared.line.Line.TheVariants.{Empty}
 use Rattle.rf233.specs.declared.state.InternalState.TheVariants.{START}
 
 -- the driver of a length of spi_buf and a channel: in START, every flag clear, no listener, addresses 0, the power of setting 0, its own
--- buffers in their places
+-- buffers in their places, no length held
 abbrev pub new_driver : ℕ → ℕ → Driver
 new_driver l c =
     record {
@@ -34,6 +34,7 @@ new_driver l c =
             tx_len = 0;
             under = Idle;
           };
+      reception = record { length = 0; spoiled = false };
     }
 
 -- 15: a length outside 129 to 160 or a bad channel; the driver beside it is that of 129 and channel 26

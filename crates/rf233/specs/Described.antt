@@ -4,11 +4,13 @@ use Rattle.std.specs.Prelude.{Option, None, Some, is_some}
 use Rattle.rf233.specs.Choice.{one_of, within}
 use Rattle.rf233.specs.Line.{line_room, line, some, any_of, names}
 use Rattle.rf233.specs.Record.{times, count_of, record_has, tx_under_way, rx_under_way, receive_count}
+use Rattle.rf233.specs.Reception.{in_range}
 use Rattle.rf233.specs.State.{state_no, state_frame}
 use Rattle.rf233.specs.declared.driver.Buffers.{Buffers}
 use Rattle.rf233.specs.declared.driver.Driver.{Driver}
 use Rattle.rf233.specs.declared.driver.Lent.{Lent}
 use Rattle.rf233.specs.declared.driver.Under.{Under}
+use Rattle.rf233.specs.declared.reception.Reception.{Reception}
 use Rattle.rf233.specs.declared.driver.Under.TheVariants.{Idle, Register, FrameRead, FrameWrite}
 
 -- some buffer below n is recorded twice
@@ -91,13 +93,17 @@ abbrev pub buffer_missing : Buffers → ℕ → Bool
 buffer_missing r n =
     (one_of (33 ∷ 43 ∷ []) n && not (is_some r.tx_buf)) || (one_of (62 ∷ 64 ∷ 68 ∷ []) n && not (some (line r)))
 
+-- clause (request 2026-13): 65 to 68 with a held length that is no frame's
+abbrev pub held_length_bad : Reception → ℕ → Bool
+held_length_bad e n = within 65 68 n && not (in_range e)
+
 -- a driver value that refusal 12 describes
 unfoldable pub described : Driver → Bool
 described d =
     let r = d.buffers in
     let n = state_no d.state in
     recorded_twice r || (own_nowhere r || (client_above r || (length_bad r || (held_besides r || (crowded r
-    || (frame_unfit r.under n d.flags.interrupt_handling || buffer_missing r n))))))
+    || (frame_unfit r.under n d.flags.interrupt_handling || (buffer_missing r n || held_length_bad d.reception n)))))))
 
 -- The parts in which `is_described` asks this, place by place: `described` is made of them (`regrouped` in proofs/Regrouped.antt).
 
@@ -150,4 +156,4 @@ by_place d =
     not (within 129 160 r.spi_buf_whole) || (not (within 2 r.spi_buf_whole r.spi_buf_len)
     || ((slot_above r.tx_buf || tx_length_bad r.tx_buf r.tx_len) || (line_bad (line r) r.tx_buf
     || ((own_wrong r.under r || frame_bad r.under r.tx_buf (line r) r.tx_len d.flags.interrupt_handling)
-    || (not (eqb (frame_no r.under) (state_frame n)) || buffer_missing r n)))))
+    || (not (eqb (frame_no r.under) (state_frame n)) || (buffer_missing r n || held_length_bad d.reception n))))))

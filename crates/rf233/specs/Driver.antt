@@ -14,6 +14,7 @@ use Rattle.rf233.specs.declared.driver.Buffers.{Buffers}
 use Rattle.rf233.specs.declared.driver.Driver.{Driver}
 use Rattle.rf233.specs.declared.driver.Lent.{Lent}
 use Rattle.rf233.specs.declared.driver.Under.{Under}
+use Rattle.rf233.specs.declared.reception.Reception.{Reception}
 use Rattle.rf233.specs.Line.{line_of}
 
 -- the Rust's cells of a bool, in the order of `Flags`
@@ -162,6 +163,10 @@ with_settings v d = record d { settings = v }
 -- the driver with this record of its buffers
 abbrev pub with_buffers : Buffers → Driver → Driver
 with_buffers b d = record d { buffers = b }
+
+-- the driver with this kept of a reception
+abbrev pub with_reception : Reception → Driver → Driver
+with_reception e d = record d { reception = e }
 
 -- the driver after these assignments of its flags
 abbrev pub assigning : ℕ → List Assignment → Driver → Driver

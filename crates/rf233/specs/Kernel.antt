@@ -16,9 +16,7 @@ arrived_bad xs b = ltb (length xs) 2 || ltb (shorter b) (length xs)
 
 -- a completion that is not refused: its bytes are copied first
 unfoldable pub completing : Driver → List ℕ → List ℕ → Called
-completing d xs p =
-    let q = copied (read_buffer d.buffers.under) xs p in
-    stepping (completed (arrived_of xs d.buffers q) d) q
+completing d xs p = stepping (completed (arrived_of xs) d) (copied (read_buffer d.buffers.under) xs p)
 
 -- completion: 12; 11 with no transfer to complete; 13
 unfoldable pub completion_call : Driver → List ℕ → List ℕ → Called

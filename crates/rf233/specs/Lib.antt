@@ -1,6 +1,7 @@
 pub mod Choice
 pub mod State
 pub mod Line
+pub mod Reception
 pub mod Driver
 pub mod Action
 pub mod Transfer

@@ -1,9 +1,7 @@
 -- The pool: 3,040 lent bytes, 19 buffers of 160, of which buffer b begins at byte 160 times b (document 01). What a transfer writes into
--- it, what a completion copies into it, and the byte that is read from it.
-use Rattle.std.specs.Prelude.{ℕ, ◌+◌, ◌*◌, min, List, ◌++◌, ltb, length, get_or, set, take, drop, Option, None, Some}
+-- it, and what a completion copies into it.
+use Rattle.std.specs.Prelude.{ℕ, ◌+◌, ◌*◌, min, List, ◌++◌, ltb, length, set, take, drop, Option, None, Some}
 use Rattle.rf233.specs.Choice.{pick}
-use Rattle.rf233.specs.Line.{line, front}
-use Rattle.rf233.specs.Record.{buffer_in}
 use Rattle.rf233.specs.Transfer.{kind_value}
 use Rattle.rf233.specs.declared.driver.Buffers.{Buffers}
 use Rattle.rf233.specs.declared.driver.Under.{Under}
@@ -53,8 +51,3 @@ read_length (FrameWrite x) b = b.spi_buf_len
 -- the shorter of the two
 abbrev pub shorter : Buffers → ℕ
 shorter b = min (write_length b.under b) (read_length b.under b)
-
--- byte 1 of the buffer at the front of the line. With none in the line it is buffer 0's and of no use: the case of 68 alone uses the byte,
--- and 12 describes a driver that has no receive buffer there
-abbrev pub length_byte : Buffers → List ℕ → ℕ
-length_byte b p = get_or p (start_of (buffer_in (front (line b))) + 1) 0

@@ -1,5 +1,5 @@
 -- Reception, the states 59 to 68, and the notice of a received frame.
-use Rattle.std.specs.Prelude.{ℕ, ◌-◌, Bool, true, false, ◌&&◌, List, [], ◌∷◌, leb}
+use Rattle.std.specs.Prelude.{◌-◌, true, false, List, [], ◌∷◌}
 use Rattle.rf233_const.specs.declared.register.RF233Register.TheVariants.{IRQ_STATUS, TRX_STATUS, PHY_RSSI}
 use Rattle.rf233_const.specs.declared.trx_state.RF233TrxCmd.TheVariants as cmd
 use Rattle.rf233.specs.Choice.{pick}
@@ -13,7 +13,7 @@ use Rattle.rf233.specs.Rows.Access.{reads, reads_length, reads_frame}
 use Rattle.rf233.specs.Rows.Next.{to}
 use Rattle.rf233.specs.Rows.Row.{does}
 use Rattle.rf233.specs.Rows.Shown.{received_back, received_kept}
-use Rattle.rf233.specs.Rows.Test.{length_fits, listens}
+use Rattle.rf233.specs.Rows.Test.{length_fits, is_spoiled, listens}
 use Rattle.rf233.specs.Rows.Tree.{leaf, ask}
 use Rattle.rf233.specs.Step.{transition_read}
 use Rattle.rf233.specs.declared.action.Action.{Action}
@@ -25,24 +25,17 @@ use Rattle.rf233.specs.declared.state.InternalState.{InternalState}
 use Rattle.rf233.specs.declared.state.InternalState.TheVariants.{READY, TX_STATUS_PRECHECK1}
 use Rattle.rf233.specs.declared.state.InternalState.TheVariants as state
 
--- the length that is told: the second length byte less 2, and 0 for a byte of 0 or 1
-abbrev pub received_length : ℕ → ℕ
-received_length byte = byte - 2
-
--- whether the check is told to be valid: not for a byte of 0 or 1
-abbrev pub received_valid : ℕ → Bool → Bool
-received_valid byte v = leb 2 byte && v
-
--- the notice of a received frame, in the buffer at the front of the line
-abbrev pub received : ℕ → Driver → Action
-received byte d = Received (buffer_in (front (line d.buffers))) (received_length byte) (received_valid byte d.flags.crc_valid)
+-- the notice of a received frame, in the buffer at the front of the line: the held length without the check's two bytes
+abbrev pub received : Driver → Action
+received d = Received (buffer_in (front (line d.buffers))) (d.reception.length - 2) d.flags.crc_valid
 
 -- TRX_STATUS is read, and the next state is the beginning of a send where one waits
 unfoldable pub onward_read : Driver → Outcome
 onward_read d =
     pick (flag transmitting d.flags) (transition_read TRX_STATUS TX_STATUS_PRECHECK1 d) (transition_read TRX_STATUS READY d)
 
--- 68: reception is over, and a waiting stop is withdrawn. The listener is handed the buffer; with none it goes to the end of the line
+-- 68: reception is over, and a waiting stop is withdrawn. Of a spoiled frame nothing is told, and its buffer stays at the front of the line
+-- (request 2026-13). Else the listener is handed the buffer; with none it goes to the end of the line
 abbrev reception_over : List Shown → InternalState → Tree
 reception_over l n = leaf (does (put receiving false ∷ put sleep_pending false ∷ []) (reads TRX_STATUS) (to n) l)
 
@@ -58,5 +51,6 @@ receive_trees =
     ∷ stay
     ∷ read PHY_RSSI state.RX_READING_FRAME_FCS_DONE
     ∷ leaf (does (put_crc ∷ []) (commands cmd.RX_AACK_ON) (to state.RX_ENABLING_RECEPTION) [])
-    ∷ ask (listens listener.Receive) (onward (reception_over (received_back ∷ []))) (onward (reception_over (received_kept ∷ [])))
+    ∷ ask is_spoiled (onward (reception_over []))
+    (ask (listens listener.Receive) (onward (reception_over (received_back ∷ []))) (onward (reception_over (received_kept ∷ []))))
     ∷ []

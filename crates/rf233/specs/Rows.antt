@@ -8,9 +8,10 @@ use Rattle.rf233_const.specs.declared.register.RF233Register.TheVariants.{TRX_ST
 use Rattle.rf233_const.specs.declared.status.ExternalState.{ExternalState}
 use Rattle.rf233_const.specs.declared.status.ExternalState.TheVariants as external
 use Rattle.rf233_const.specs.declared.trx_state.RF233TrxCmd.{RF233TrxCmd}
-use Rattle.rf233.specs.Choice.{pick, one_of, within}
+use Rattle.rf233.specs.Choice.{pick, one_of}
 use Rattle.rf233.specs.Driver.{Flag, Assignment, flag, client}
 use Rattle.rf233.specs.Driver.Flag.{transmitting}
+use Rattle.rf233.specs.Reception.{in_range}
 use Rattle.rf233.specs.declared.action.Action.{Action}
 use Rattle.rf233.specs.declared.arrived.Arrived.{Arrived}
 use Rattle.rf233.specs.declared.driver.Client.{Client}
@@ -21,14 +22,14 @@ use Rattle.rf233.specs.declared.write.Value.{Value}
 use Rattle.rf233.specs.declared.write.Value.TheVariants.{Command}
 use Rattle.rf233.specs.declared.write.Write.{Write}
 
--- a condition: on the status that arrived, on the length byte, on a flag, on a listener
+-- a condition: on the status that arrived, on the held length, on whether the frame is spoiled, on a flag, on a listener
 pub data Test : Type 0 where
   status_in : List ℕ → Test
-  length_fits : Test
+  length_fits is_spoiled : Test
   is_set : Flag → Test
   listens : Client → Test
 
--- what a row starts: nothing, a register access, a frame read of as many bytes as the result byte says, of the length alone, a frame write
+-- what a row starts: nothing, a register access, a frame read of the length alone, of as many bytes as the held length says, a frame write
 pub data Access : Type 0 where
   none : Access
   reads : RF233Register → Access
@@ -36,7 +37,7 @@ pub data Access : Type 0 where
   reads_length reads_frame writes_frame : Access
 
 -- what a row shows: an action as it stands; a notice to the power or the config listener, if it is there; a buffer handed back, with
--- values from the driver and the arrived bytes; of a received buffer that nobody is told of, nothing: it goes to the end of the line
+-- values from the driver and the arrived bytes; of a received buffer that nobody listens for, nothing: it goes to the end of the line
 pub data Shown : Type 0 where
   plain : Action → Shown
   power_changed config_done sent_back dropped_back received_back received_kept : Shown
@@ -55,10 +56,11 @@ pub data Tree : Type 0 where
   leaf : Row → Tree
   ask : Test → Tree → Tree → Tree
 
--- whether a condition holds; document 01: 11 and 127 are read out, 10 and 128 are not
+-- whether a condition holds
 unfoldable pub holds : Test → Arrived → Driver → Bool
 holds (status_in l) a d = one_of l a.status
-holds length_fits a d = within 11 127 a.result
+holds length_fits a d = in_range d.reception
+holds is_spoiled a d = d.reception.spoiled
 holds (is_set f) a d = flag f d.flags
 holds (listens c) a d = client c d.clients
 

@@ -7,6 +7,7 @@ use crate::config::channel_fits;
 use crate::driver::{Buffers, Clients, Driver, Flags, Settings, Under};
 use crate::line::Line;
 use crate::power::setting_to_power;
+use crate::reception::Reception;
 use crate::state::InternalState;
 
 impl Driver {
@@ -35,6 +36,10 @@ impl Driver {
                 rx_line: Line::Empty,
                 tx_len: 0,
                 under: Under::Idle,
+            },
+            reception: Reception {
+                length: 0,
+                spoiled: false,
             },
         }
     }

@@ -6,6 +6,7 @@ ghost use Rattle.rf233.specs.Described.{
   described,
   frame_bad,
   frame_no,
+  held_length_bad,
   line_bad,
   own_wrong,
   receive_bad,
@@ -86,25 +87,6 @@ impl Buffers {
             }
         }
     }
-
-    // A frame transfer that the state does not name, or a state without its transfer or without the buffer that it takes.
-    fn state_bad(self, state: InternalState) -> bool
-        ensures { result ≡ (not (eqb (frame_no self.under) (state_frame (state_no state))) || buffer_missing self (state_no state)) }
-    {
-        let framed = matches!(self.under, Under::FrameRead(_) | Under::FrameWrite(_));
-        match state {
-            InternalState::TX_STATUS_PRECHECK1 | InternalState::TX_RETURN_TO_RX => framed
-                || self.tx_buf.is_none(),
-            InternalState::TX_WRITING_FRAME => !matches!(self.under, Under::FrameWrite(_)),
-            InternalState::RX_START_READING
-            | InternalState::RX_READING_FRAME_LEN_DONE
-            | InternalState::RX_ENABLING_RECEPTION => framed || self.rx_line.is_empty(),
-            InternalState::RX_READING_FRAME_LEN | InternalState::RX_READING_FRAME => {
-                !matches!(self.under, Under::FrameRead(_))
-            }
-            _ => framed,
-        }
-    }
 }
 
 impl Driver {
@@ -127,6 +109,35 @@ impl Driver {
             || tx_bad(b.tx_buf, b.tx_len)
             || b.line_bad()
             || b.going_bad(self.flags.interrupt_handling)
-            || b.state_bad(self.state)
+            || self.state_bad()
+    }
+
+    // A frame transfer that the state does not name; a state without its transfer, or without the buffer that it takes; while a frame is
+    // read out and announced, a held length that is no frame's. By one look at the state: with the length asked apart, a completion takes 6
+    // instructions more (measured).
+    fn state_bad(self) -> bool
+        ensures { result
+            ≡ (not (eqb (frame_no self.buffers.under) (state_frame (state_no self.state)))
+            || (buffer_missing self.buffers (state_no self.state) || held_length_bad self.reception (state_no self.state))) }
+    {
+        let b = self.buffers;
+        let framed = matches!(b.under, Under::FrameRead(_) | Under::FrameWrite(_));
+        match self.state {
+            InternalState::TX_STATUS_PRECHECK1 | InternalState::TX_RETURN_TO_RX => framed
+                || b.tx_buf.is_none(),
+            InternalState::TX_WRITING_FRAME => !matches!(b.under, Under::FrameWrite(_)),
+            InternalState::RX_START_READING | InternalState::RX_READING_FRAME_LEN_DONE => framed
+                || b.rx_line.is_empty(),
+            InternalState::RX_READING_FRAME_LEN => !matches!(b.under, Under::FrameRead(_)),
+            InternalState::RX_READING_FRAME => {
+                !matches!(b.under, Under::FrameRead(_)) || !self.reception.is_in_range()
+            }
+            InternalState::RX_READING_FRAME_DONE | InternalState::RX_READING_FRAME_FCS_DONE =>
+                framed || !self.reception.is_in_range(),
+            InternalState::RX_ENABLING_RECEPTION => framed
+                || b.rx_line.is_empty()
+                || !self.reception.is_in_range(),
+            _ => framed,
+        }
     }
 }

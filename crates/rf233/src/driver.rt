@@ -1,5 +1,6 @@
 // The driver as a value: what the Rust keeps in cells, and where each buffer is.
 use crate::line::Line;
+use crate::reception::Reception;
 use crate::state::InternalState;
 
 // The Rust's cells of a bool, under its names. Its `spi_busy` is here the record of the transfer under way.
@@ -77,7 +78,7 @@ pub struct Buffers {
     pub under: Under,
 }
 
-// The driver: its state, its flags, its listeners, its settings, its record of the buffers.
+// The driver: its state, its flags, its listeners, its settings, its record of the buffers, what it keeps of a reception.
 #[derive(Clone, Copy)]
 pub struct Driver {
     pub state: InternalState,
@@ -85,4 +86,5 @@ pub struct Driver {
     pub clients: Clients,
     pub settings: Settings,
     pub buffers: Buffers,
+    pub reception: Reception,
 }

@@ -30,7 +30,6 @@ impl Driver {
         let a = Arrived {
             status: status_of(arrived[0]),
             result: arrived[1],
-            length: self.buffers.length_byte(pool),
         };
         self.complete(a).written(pool)
     }

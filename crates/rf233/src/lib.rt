@@ -23,6 +23,7 @@ mod pool;
 pub mod power;
 mod ready;
 mod receive;
+pub mod reception;
 mod record;
 mod sleep;
 mod starter;

@@ -1,9 +1,8 @@
-// The lent pool of 19 buffers of 160 bytes: command bytes are written into it, arrived bytes are copied into it, one byte is read.
+// The lent pool of 19 buffers of 160 bytes: command bytes are written into it, arrived bytes are copied into it.
 ghost use Rattle.std.specs.Prelude.{◌≡◌, ◌*◌, ◌+◌, ◌++◌, ◌≤◌, drop, length, set};
-ghost use Rattle.rf233.specs.Pool.{command_written, copied, length_byte, read_buffer, shorter};
+ghost use Rattle.rf233.specs.Pool.{command_written, copied, read_buffer, shorter};
 
 use crate::driver::{Buffers, Under};
-use crate::record::buffer_in;
 use crate::transfer::{Transfer, TransferKind};
 
 // Writes one byte, where the pool reaches that far. A test and an index: with `get_mut` the proof did not close.
@@ -81,14 +80,5 @@ impl Buffers {
             Under::FrameRead(x) => self.spi_buf_len.min(u16::from(x.length)),
             Under::FrameWrite(_) => (u16::from(self.tx_len) + 2).min(self.spi_buf_len),
         }
-    }
-
-    // Byte 1 of the buffer at the front of the line; with an empty line nobody uses it.
-    pub(crate) fn length_byte(self, pool: &[u8]) -> u8
-        ensures { result ≡ length_byte self pool.now }
-    {
-        pool.get(buffer_in(self.rx_line.front()) as usize * 160 + 1)
-            .copied()
-            .unwrap_or(0)
     }
 }

@@ -57,15 +57,15 @@ impl Driver {
         self.frame_read(0).step()
     }
 
-    // A length from MIN_FRAME_SIZE to MAX_FRAME_SIZE is read out; any other is left.
+    // A held length from MIN_FRAME_SIZE to MAX_FRAME_SIZE is read out; any other is left.
     fn rx_reading_frame_len_done(mut self, a: Arrived) -> Outcome
         requires { state_no self.state ≡ 64 }
         ensures { result ≡ own_case a self }
     {
-        match a.result {
-            11..=127 => {
+        match self.reception.length {
+            n @ 11..=127 => {
                 self.state = InternalState::RX_READING_FRAME;
-                self.frame_read(a.result).step()
+                self.frame_read(n).step()
             }
             _ => self.onward_read(),
         }
@@ -83,18 +83,22 @@ impl Driver {
         )
     }
 
-    // The frame is handed to the listener; with none its buffer goes to the end of the line. A waiting stop is withdrawn.
+    // A spoiled frame is told to nobody, and its buffer stays in front. Any other is handed to the listener; with none its buffer goes to
+    // the end of the line. A waiting stop is withdrawn.
     fn rx_enabling_reception(mut self, a: Arrived) -> Outcome
         requires { state_no self.state ≡ 68 }
         ensures { result ≡ own_case a self }
     {
         self.flags.receiving = false;
         self.flags.sleep_pending = false;
+        if self.reception.spoiled {
+            return self.onward_read();
+        }
         if !self.clients.rx_client {
             self.buffers.rx_line = self.buffers.rx_line.rotate();
             return self.onward_read();
         }
-        let notice = self.received(a.length);
+        let notice = self.received();
         self.buffers.rx_line = self.buffers.rx_line.behind();
         self.onward_read().with_actions(Actions::of([notice]))
     }
@@ -111,14 +115,14 @@ impl Driver {
         self.state_transition_read(RF233Register::TRX_STATUS, next)
     }
 
-    // The notice of a received frame, in the buffer at the front of the line. A second length byte of 0 or 1 gives length 0, check invalid.
-    fn received(self, length: u8) -> Action
-        ensures { result ≡ received length self }
+    // The notice of a received frame, in the buffer at the front of the line. The held length is 11 at least (refusal 12).
+    fn received(self) -> Action
+        ensures { result ≡ received self }
     {
         Action::Received(
             buffer_in(self.buffers.rx_line.front()),
-            length.saturating_sub(2),
-            2 <= length && self.flags.crc_valid,
+            self.reception.length.saturating_sub(2),
+            self.flags.crc_valid,
         )
     }
 }
