@@ -14,4 +14,9 @@ pub mod Shown
 pub mod Yield
 pub mod InOrder
 pub mod OldestFirst
+pub mod LengthSteps
+pub mod LengthRows
+pub mod LengthCompletion
+pub mod ReceivedLength
+pub mod LengthOccurs
 pub mod OldestOccurs

@@ -1,5 +1,6 @@
 pub mod Book
 pub mod Claim
 pub mod OldestFirst
+pub mod ReceivedLength
 pub mod Yield
 pub mod BookCode
