@@ -20,16 +20,16 @@ pub const CORNERS: [Corner; 8] = [
         expected: "27 27:143.0/2 29:194.22/2 30 32:129.0/2 29:194.22/2 29+p1",
     },
     Corner {
-        name: "A second length byte of 0 underflows in Rust; the port reports length 0, CRC invalid",
+        name: "A second length byte of 0 is not the held length: the frame is spoiled, and nothing is announced (2026-13)",
         setup: b"\x06\x02\x03\x02\x00\x0c\x03\x02\x00\x00\x05\x00\x81\x02\x03\x02\x16\x0c\x03\x02\x16\x0b\x03\x02\x16\x00",
         events: b"\x03\x02\x16\x80\x03\x02\x16\x00",
-        expected: "68:194.22/2 29:129.0/2+r0.0",
+        expected: "68:194.22/2 29:129.0/2",
     },
     Corner {
-        name: "A second length byte of 1 underflows in Rust; the port reports length 0, CRC invalid",
+        name: "A second length byte of 1 is not the held length: the frame is spoiled, and nothing is announced (2026-13)",
         setup: b"\x06\x02\x03\x02\x00\x0c\x03\x02\x00\x00\x05\x00\x81\x02\x03\x02\x16\x0c\x03\x02\x16\x0b\x03\x02\x16\x01",
         events: b"\x03\x02\x16\x80\x03\x02\x16\x00",
-        expected: "68:194.22/2 29:129.0/2+r0.0",
+        expected: "68:194.22/2 29:129.0/2",
     },
     Corner {
         name: "transmit during CONFIG is accepted, and starts only after a later reception",

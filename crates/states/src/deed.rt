@@ -15,8 +15,8 @@ pub enum Subject {
     Value(u8, u8),
     // A frame transfer's n.
     Count(u8),
-    // The n of a frame read is the byte that the situation brings.
-    Result,
+    // The n of a frame read is the length that is held after the step.
+    Length,
 }
 
 // A transfer that was started.
@@ -41,14 +41,14 @@ const COMMANDS: [(RF233TrxCmd, &str); 6] = [
 ];
 
 impl Started {
-    // What is said of the transfer in a situation that brings this second byte.
-    fn of(transfer: Transfer, arrived: u8) -> Started {
+    // What is said of the transfer of a step after which this length is held.
+    fn of(transfer: Transfer, held: u8) -> Started {
         let register = transfer.first % 64;
         let second = transfer.second;
         let subject = match transfer.kind {
             TransferKind::RegisterRead => Subject::Register(register),
             TransferKind::RegisterWrite => Subject::Value(register, second),
-            TransferKind::FrameRead if 0 < arrived && second == arrived => Subject::Result,
+            TransferKind::FrameRead if 0 < held && second == held => Subject::Length,
             TransferKind::FrameRead | TransferKind::FrameWrite => Subject::Count(second),
         };
         Started {
@@ -59,14 +59,12 @@ impl Started {
 }
 
 impl Deed {
-    // What is said of the reply to a call in a situation that brings this second byte.
-    pub fn of(reply: Reply, arrived: u8) -> Deed {
+    // What is said of the reply to a call after which this length is held.
+    pub fn of(reply: Reply, held: u8) -> Deed {
         if reply.answer != Answer::Done {
             return Deed(Err(reply.answer));
         }
-        let started = reply
-            .transfer
-            .map(|transfer| Started::of(transfer, arrived));
+        let started = reply.transfer.map(|transfer| Started::of(transfer, held));
         Deed(Ok(started))
     }
 
@@ -99,7 +97,7 @@ impl fmt::Display for Subject {
                 }
             }
             Subject::Count(n) => write!(f, "{n}"),
-            Subject::Result => f.write_str("result"),
+            Subject::Length => f.write_str("length"),
         }
     }
 }

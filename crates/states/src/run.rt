@@ -6,10 +6,9 @@ use rf233::driver::Driver;
 // The status byte of no state.
 const NO_STATE: u8 = 0x1E;
 
-// A transfer is complete: these two bytes arrived. Byte 161 of the pool is byte 1 of buffer 1, the receive buffer.
+// A transfer is complete: these two bytes arrived.
 fn completed(driver: Driver, situation: &Situation, pool: &mut [u8; 3040]) -> Outcome {
     let status = situation.status.map_or(NO_STATE, u8::from);
-    pool[161] = situation.length;
     driver.read_write_done(&[status, situation.result], pool)
 }
 

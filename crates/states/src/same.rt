@@ -38,7 +38,8 @@ pub fn cases<K: PartialEq + Drop, F: Fn(Columns) -> K>(
     requires { F.IsAlwaysCallable compared }
 {
     let mut cases: Vec<Case<K>> = Vec::new(alloc);
-    for condition in statuses().into_iter().chain(results()).chain(differences()) {
+    let all = statuses().into_iter().chain(results()).chain(differences());
+    for condition in all.filter(|condition| is_possible(state, condition)) {
         let step = Step::of(state, condition);
         let compared = compared(step.columns);
         let place = cases.iter().position(|case| case.compared == compared);

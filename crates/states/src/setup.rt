@@ -4,6 +4,7 @@ use crate::situation::{Call, Situation};
 use crate::state::Group;
 use rf233::driver::{Buffers, Clients, Driver, Flags, Lent, Settings, Under};
 use rf233::line::Line;
+use rf233::reception::Reception;
 use rf233::state::InternalState;
 
 // The same settings in every situation: those that the table's first text names.
@@ -48,12 +49,25 @@ fn takes_rx(state: InternalState) -> bool {
     )
 }
 
+// While a frame is read out and announced the held length is a frame's.
+fn is_read_out(state: InternalState) -> bool {
+    matches!(
+        state,
+        InternalState::RX_READING_FRAME
+            | InternalState::RX_READING_FRAME_DONE
+            | InternalState::RX_READING_FRAME_FCS_DONE
+            | InternalState::RX_ENABLING_RECEPTION
+    )
+}
+
 // A situation that the state can be in: IRQ_STATUS is not read, and nothing is at rest, while a frame transfer is under way; a state that
-// takes the receive buffer has it.
+// takes the receive buffer has it; one in which a frame is read out and announced has its length.
 pub fn is_possible(state: InternalState, situation: &Situation) -> bool {
     let reads = situation.flags.interrupt_handling
         || (situation.call == Call::Firing && !situation.in_transfer);
-    !(frame_transfer(state).is_some() && reads) && !(takes_rx(state) && situation.empty_line)
+    !(frame_transfer(state).is_some() && reads)
+        && !(takes_rx(state) && situation.empty_line)
+        && (!is_read_out(state) || (11..=127).contains(&situation.held_length))
 }
 
 // From READY on the radio is on, but for the states of sleep; for a firing or a call it is on in every state.
@@ -147,5 +161,9 @@ pub fn driver_in(state: InternalState, situation: &Situation) -> Driver {
         clients: clients(situation),
         settings: SETTINGS,
         buffers: buffers(state, situation),
+        reception: Reception {
+            length: situation.held_length,
+            spoiled: situation.spoiled,
+        },
     }
 }

@@ -42,7 +42,8 @@ pub enum Kind {
 #[derive(Clone, Copy)]
 enum Difference {
     OtherStatus,
-    LengthByte(u8),
+    HeldLength(u8),
+    Spoiled,
     Transmitting,
     Receiving,
     CrcValid,
@@ -58,7 +59,7 @@ enum Difference {
 }
 
 // A situation: its name, the call that is made, whether a register transfer is under way, the two bytes that arrive (a status that is no
-// state's is None) and byte 1 of the receive buffer, the flags that are set, and what is not there.
+// state's is None), the held length and whether the frame is spoiled, the flags that are set, and what is not there.
 #[derive(Clone, Copy)]
 pub struct Situation {
     pub kind: Kind,
@@ -67,7 +68,8 @@ pub struct Situation {
     pub in_transfer: bool,
     pub status: Option<ExternalState>,
     pub result: u8,
-    pub length: u8,
+    pub held_length: u8,
+    pub spoiled: bool,
     pub flags: Flags,
     pub radio_off: bool,
     pub no_listener: bool,
@@ -88,7 +90,8 @@ const NO_FLAGS: Flags = Flags {
     power_client_pending: false,
 };
 
-// The plain completion: status RX_AACK_ON, result 0, length byte 20, all listeners there, no flag set that the state does not bring along.
+// The plain completion: status RX_AACK_ON, result 0, held length 20, not spoiled, all listeners there, no flag set that the state does not
+// bring along.
 pub const PLAIN: Situation = Situation {
     kind: Kind::Plain,
     name: "-",
@@ -96,7 +99,8 @@ pub const PLAIN: Situation = Situation {
     in_transfer: true,
     status: Some(ExternalState::RX_AACK_ON),
     result: 0,
-    length: 20,
+    held_length: 20,
+    spoiled: false,
     flags: NO_FLAGS,
     radio_off: false,
     no_listener: false,
@@ -171,7 +175,8 @@ impl Situation {
     fn with(mut self, difference: Difference) -> Situation {
         match difference {
             Difference::OtherStatus => self.status = None,
-            Difference::LengthByte(length) => self.length = length,
+            Difference::HeldLength(length) => self.held_length = length,
+            Difference::Spoiled => self.spoiled = true,
             Difference::Transmitting => self.flags.transmitting = true,
             Difference::Receiving => self.flags.receiving = true,
             Difference::CrcValid => self.flags.crc_valid = true,
@@ -224,11 +229,12 @@ pub fn statuses() -> [Situation; 14] {
     ]
 }
 
-// The results of a register read that a step tells apart.
-pub fn results() -> [Situation; 6] {
+// The second bytes that a step tells apart; 20 is the held length.
+pub fn results() -> [Situation; 7] {
     [
         Situation::result("10", 10),
         Situation::result("11", 11),
+        Situation::result("20", 20),
         Situation::result("127", 127),
         Situation::result("128", 128),
         Situation::result("0x20", 0x20),
@@ -236,8 +242,8 @@ pub fn results() -> [Situation; 6] {
     ]
 }
 
-// What else may differ in a completion: a flag, what is not there, the length byte.
-pub fn differences() -> [Situation; 12] {
+// What else may differ in a completion: a flag, what is not there, what is kept of a reception.
+pub fn differences() -> [Situation; 18] {
     let one = Kind::One;
     let two = Kind::Two;
     [
@@ -250,13 +256,23 @@ pub fn differences() -> [Situation; 12] {
         Situation::named(one, "power_client_pending").with(Difference::PowerClientPending),
         Situation::named(one, "radio_off").with(Difference::RadioOff),
         Situation::named(one, "no_listener").with(Difference::NoListener),
-        Situation::named(one, "length_byte_1").with(Difference::LengthByte(1)),
+        Situation::named(one, "held_length_10").with(Difference::HeldLength(10)),
+        Situation::named(one, "held_length_11").with(Difference::HeldLength(11)),
+        Situation::named(one, "held_length_127").with(Difference::HeldLength(127)),
+        Situation::named(one, "held_length_128").with(Difference::HeldLength(128)),
+        Situation::named(one, "spoiled").with(Difference::Spoiled),
         Situation::named(two, "radio_off+no_listener")
             .with(Difference::RadioOff)
             .with(Difference::NoListener),
         Situation::named(two, "transmitting+no_listener")
             .with(Difference::Transmitting)
             .with(Difference::NoListener),
+        Situation::named(two, "transmitting+held_length_10")
+            .with(Difference::Transmitting)
+            .with(Difference::HeldLength(10)),
+        Situation::named(two, "transmitting+spoiled")
+            .with(Difference::Transmitting)
+            .with(Difference::Spoiled),
     ]
 }
 

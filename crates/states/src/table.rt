@@ -12,10 +12,12 @@ use std::io::Write;
 
 // What is said above the completions: what the plain one is, and how a line differs from it.
 const ABOUT_COMPLETIONS: &str =
-    "COMPLETIONS. The plain one (-) has status RX_AACK_ON, result 0, length byte 20, every listener, and no \
+    "COMPLETIONS. The plain one (-) has status RX_AACK_ON, result 0, held length 20, every listener, and no \
     flag but the state's own; from READY on\nthe radio is on, but for sleep. Another line differs from it in what its condition names. \
-    Every condition is tried in every state: one that has\nno line does as the plain one, or as an earlier line. A step passes through 62 \
-    and 66; their lines are what it does there.\nSettings: address 0xABCD, PAN 0x1234, long address 1 to 8, power 0, channel 26.";
+    Every condition is tried in every state, but in 65 to\n68 no held length of 10 or 128, which 12 describes: one that has no \
+    line does as the plain one, or as an earlier line. A step passes through 62\nand 66; their lines are what it does there. spoiled \
+    is the mark of a frame whose second length byte is not the held length; it is listed with the\nflags. Settings: address 0xABCD, \
+    PAN 0x1234, long address 1 to 8, power 0, channel 26.";
 
 // What is said above the interrupts and calls: how to read them, and what holds when they come.
 const ABOUT_EVENTS: &str =
