@@ -11,6 +11,7 @@ pub mod EveryStep
 pub mod RowLaws
 pub mod ReceptionLaws
 pub mod PoolLaws
+pub mod PoolUnread
 pub mod Sound
 pub mod Accepted
 pub mod Starred
