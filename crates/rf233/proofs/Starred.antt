@@ -16,9 +16,10 @@ use Rattle.rf233.specs.Action.{actions}
 use Rattle.rf233.specs.Step.{quiet}
 use Rattle.rf233.specs.Answer.{refused}
 use Rattle.rf233.specs.Guard.{Called, refusing}
+use Rattle.rf233.specs.Choice.{within}
 use Rattle.rf233.specs.Config.{start_call, commit_call, set_power}
-use Rattle.rf233.specs.Driver.{with_settings, with_tx_power, flagged}
-use Rattle.rf233.specs.Driver.Flag.{config_pending}
+use Rattle.rf233.specs.Driver.{with_settings, with_tx_power, flagged, set_flag}
+use Rattle.rf233.specs.Driver.Flag.{receiving, crc_valid, config_pending, sleep_pending}
 use Rattle.rf233.specs.Kernel.{completion_call, arrived_bad}
 use Rattle.rf233.specs.Data.{transmit_call}
 use Rattle.rf233.specs.Create.{new_call}
@@ -33,6 +34,7 @@ use Rattle.rf233.specs.declared.action.Action.TheVariants.{Sent, Received}
 use Rattle.rf233.specs.declared.action.Actions.{Actions}
 use Rattle.rf233.specs.declared.answer.Answer.TheVariants.{Done}
 use Rattle.rf233.specs.declared.driver.Driver.{Driver}
+use Rattle.rf233.specs.declared.driver.Flags.{Flags}
 use Rattle.rf233.specs.declared.driver.Lent.{Lent}
 use Rattle.rf233.specs.declared.driver.Settings.{Settings}
 use Rattle.rf233.specs.declared.driver.Under.{Under}
@@ -148,28 +150,36 @@ DetourNotReadOut n =
     (d : Driver) (xs p : List ℕ) → Detours 64 d xs p → d.reception.length ≡ n
     → (completion_call d xs p).outcome.reply.transfer ≡ Some (transfer_of kind.RegisterRead 16 17 0x81 0x00 2 2)
 
--- once the frame read is over: the frame is spoiled, or not; nothing is announced, the buffer is in front again, PHY_RSSI is read
-pub record Frame (spoiled : Bool) (x : Lent) (c : Called) : Type 0 where
+-- once the frame read is over: the frame is spoiled, or not; nothing is announced, the buffer is in front again, PHY_RSSI is read, the flags
+-- f stay
+pub record Frame (f : Flags) (spoiled : Bool) (x : Lent) (c : Called) : Type 0 where
   pub spoils : c.outcome.driver.reception.spoiled ≡ spoiled
   pub shows_nothing : c.outcome.reply.actions ≡ actions []
   pub held : front (line c.outcome.driver.buffers) ≡ Some x
   pub asks : c.outcome.reply.transfer ≡ Some (transfer_of kind.RegisterRead 16 17 0x86 0x00 2 2)
   pub state : In 67 c.outcome.driver
+  pub flags : c.outcome.driver.flags ≡ f
 
 -- the frame read completes with the second length byte n: the frame is spoiled
 abbrev pub SpoiledBy : ℕ → Type 0
 SpoiledBy n =
     (d : Driver) (xs p : List ℕ) (x : Lent) → Completes (FrameRead x) 65 d xs p → get_or xs 1 0 ≡ n
-    → Frame true x (completion_call d xs p)
+    → Frame d.flags true x (completion_call d xs p)
 
--- once RX_ENABLING_RECEPTION is over: these buffers are in the line, these actions are shown, a waiting stop is withdrawn, reception is
--- over, TRX_STATUS is read
-pub record EndsReception (l : List Lent) (shown : Actions) (c : Called) : Type 0 where
+-- once PHY_RSSI is read, whether the frame is spoiled or not: reception is turned on again, of the flags f the check's is set by what was
+-- read, and the mark stays
+pub record Checked (f : Flags) (spoiled : Bool) (byte : ℕ) (c : Called) : Type 0 where
+  pub command : Writes 0xC2 0x16 68 c
+  pub flags : c.outcome.driver.flags ≡ set_flag crc_valid (bit_set 7 byte) f
+  pub spoils : c.outcome.driver.reception.spoiled ≡ spoiled
+
+-- once RX_ENABLING_RECEPTION is over: these buffers are in the line, these actions are shown, TRX_STATUS is read, and of the flags f
+-- receiving and a waiting stop are cleared
+pub record EndsReception (f : Flags) (l : List Lent) (shown : Actions) (c : Called) : Type 0 where
   pub remain : line c.outcome.driver.buffers ≡ l
   pub shows : c.outcome.reply.actions ≡ shown
   pub asks : c.outcome.reply.transfer ≡ Some (transfer_of kind.RegisterRead 16 17 0x81 0x00 2 2)
-  pub not_receiving : c.outcome.driver.flags.receiving ≡ false
-  pub no_stop : c.outcome.driver.flags.sleep_pending ≡ false
+  pub flags : c.outcome.driver.flags ≡ set_flag sleep_pending false (set_flag receiving false f)
 
 -- completions one after another: completion k brings ys k to the driver and the pool that the call before left
 unfoldable pub run : (ℕ → List ℕ) → ℕ → Called → Called
@@ -271,15 +281,21 @@ pub record StarredCases : Type 0 where
   pub second_0 : SpoiledBy 0
   pub second_1 : SpoiledBy 1
   pub second_same : (d : Driver) (xs p : List ℕ) (x : Lent) → Completes (FrameRead x) 65 d xs p → get_or xs 1 0 ≡ d.reception.length
-      → Frame false x (completion_call d xs p)
+      → Frame d.flags false x (completion_call d xs p)
   pub second_differs : (d : Driver) (xs p : List ℕ) (x : Lent) → Completes (FrameRead x) 65 d xs p
       → eqb (get_or xs 1 0) d.reception.length ≡ false
-      → Frame true x (completion_call d xs p)
-  -- "the frame is not announced and the buffer stays held at its place in the line; all else, flags too, goes on as before"
+      → Frame d.flags true x (completion_call d xs p)
+  -- "the frame is not announced and the buffer stays held at its place in the line; all else, flags too, goes on as before": of a spoiled
+  -- frame and of another the same in 67, and the same flags and transfers
+  pub checked : (d : Driver) (xs p : List ℕ) → Completes Register 67 d xs p
+      → Checked d.flags d.reception.spoiled (get_or xs 1 0) (completion_call d xs p)
   pub not_announced : (d : Driver) (xs p : List ℕ) → Completes Register 68 d xs p → d.reception.spoiled ≡ true
-      → EndsReception (line d.buffers) (actions []) (completion_call d xs p)
+      → EndsReception d.flags (line d.buffers) (actions []) (completion_call d xs p)
   -- "The notice gives the held length less 2"
   pub announced : (d : Driver) (xs p : List ℕ) (x : Lent) → Completes Register 68 d xs p → d.reception.spoiled ≡ false
       → d.clients.rx_client ≡ true → front (line d.buffers) ≡ Some x
-      → EndsReception (behind (line d.buffers)) (actions (Received x.buffer (d.reception.length - 2) d.flags.crc_valid ∷ []))
+      → EndsReception d.flags (behind (line d.buffers)) (actions (Received x.buffer (d.reception.length - 2) d.flags.crc_valid ∷ []))
       (completion_call d xs p)
+  -- "In states 65 to 68 one outside these bounds is POOL"
+  pub outside : (d : Driver) (xs p : List ℕ) → within 65 68 (state_no d.state) ≡ true → within 11 127 d.reception.length ≡ false
+      → completion_call d xs p ≡ refusing 12 d p

@@ -1,8 +1,8 @@
 -- The starred cases on a frame's length, as request 2026-13 has altered them: the length read, the detour behind it, the second length
 -- byte, and what is announced. From the law that only the end of a frame read alters what is kept of a reception (ReceptionLaws.antt).
 -- Assumes nothing.
-use mathlib.Core.Path.{◌≡◌, refl, ap}
-use mathlib.Core.Bool.{Bool, true, false, not, ◌&&◌, and-false}
+use mathlib.Core.Path.{◌≡◌, refl, sym, ap}
+use mathlib.Core.Bool.{Bool, true, false, not, ◌&&◌, and-false, or-true}
 use mathlib.Core.List.{List, [], ◌∷◌}
 use Prim.Native.Nat.{ℕ, ◌-◌}
 use native.Mathlib.Omega.{arith}
@@ -14,7 +14,8 @@ use Rattle.std.specs.Prelude.{Option, Some}
 use Rattle.rf233.specs.Action.{actions}
 use Rattle.rf233.specs.Arrived.{arrived_of}
 use Rattle.rf233.specs.Case.{case_of, perform, trees, tree_at}
-use Rattle.rf233.specs.Choice.{pick}
+use Rattle.rf233.specs.Choice.{pick, within}
+use Rattle.rf233.specs.Guard.{refusing}
 use Rattle.rf233.specs.Completion.{
   completed,
   ready_bookkeeping,
@@ -26,13 +27,15 @@ use Rattle.rf233.specs.Completion.{
   interrupt_result,
   frame_end,
 }
-use Rattle.rf233.specs.Driver.{flagged}
-use Rattle.rf233.specs.Driver.Flag.{receiving}
+use Rattle.rf233.specs.Described.{described}
+use Rattle.rf233.specs.Driver.{flagged, flags_of, set_flag}
+use Rattle.rf233.specs.Driver.Flag.{receiving, crc_valid, interrupt_handling, sleep_pending}
 use Rattle.rf233.specs.Interrupt.{interrupt_state}
 use Rattle.rf233.specs.Kernel.{completing, completion_call}
 use Rattle.rf233.specs.Line.{line, front, behind}
 use Rattle.rf233.specs.Record.{lent}
 use Rattle.rf233.specs.Rows.{eval, holds}
+use Rattle.rf233.specs.declared.driver.Flags.{Flags}
 use Rattle.rf233.specs.Starter.{register_transfer, frame_read_into}
 use Rattle.rf233.specs.Reception.{compared}
 use Rattle.rf233.specs.State.{state_no}
@@ -62,10 +65,11 @@ use Rattle.rf233.proofs.Starred.{
   DetourReadOut,
   DetourNotReadOut,
   Frame,
+  Checked,
   SpoiledBy,
   EndsReception,
 }
-use Rattle.rf233.proofs.StarredSteps.{unguarded, accepted_step, straight}
+use Rattle.rf233.proofs.StarredSteps.{unguarded, accepted_step, accepts, sends, still, straight}
 
 -- ---- the length read
 
@@ -122,9 +126,15 @@ detour_not_out n e d xs p h v =
 
 -- ---- the second length byte
 
+-- no interrupt is handled while a frame is read out
+same_flags : (f : Flags) → f.interrupt_handling ≡ false → set_flag interrupt_handling false f ≡ f
+same_flags f e =
+    ap (λ v. flags_of f.radio_on f.transmitting f.receiving f.crc_valid v f.interrupt_pending f.config_pending f.sleep_pending
+    f.wake_pending f.power_client_pending) (sym e)
+
 framed : (v : Bool) (d : Driver) (xs p : List ℕ) (x : Lent) → Completes (FrameRead x) 65 d xs p
     → eqb (get_or xs 1 0) d.reception.length ≡ not v
-    → Frame v x (completion_call d xs p)
+    → Frame d.flags v x (completion_call d xs p)
 unfolding case_of tree_at trees eval holds perform register_transfer frame_done pick
 framed v d xs p x h e =
     let own = frame_home d h.passes.fit x h.is_under_way in
@@ -135,6 +145,7 @@ framed v d xs p x h e =
       held = front_is (x ∷ line d.buffers);
       asks = refl {a = Some (transfer_of kind.RegisterRead 16 17 0x86 0 2 2)};
       state = refl {a = 67};
+      flags = same_flags d.flags h.handling;
     })
   where
     go : (v : Bool) → not (not v) ≡ v
@@ -142,11 +153,11 @@ framed v d xs p x h e =
     go false = refl
 
 pub differs : (d : Driver) (xs p : List ℕ) (x : Lent) → Completes (FrameRead x) 65 d xs p → eqb (get_or xs 1 0) d.reception.length ≡ false
-    → Frame true x (completion_call d xs p)
+    → Frame d.flags true x (completion_call d xs p)
 differs = framed true
 
 pub same : (d : Driver) (xs p : List ℕ) (x : Lent) → Completes (FrameRead x) 65 d xs p → get_or xs 1 0 ≡ d.reception.length
-    → Frame false x (completion_call d xs p)
+    → Frame d.flags false x (completion_call d xs p)
 same d xs p x h e = framed false d xs p x h (eq-eqb (get_or xs 1 0) d.reception.length e)
 
 -- in 65 the held length is 11 at least
@@ -158,36 +169,62 @@ below_range n l d xs p x h e =
 
 -- ---- what is announced
 
+pub checked_lem : (d : Driver) (xs p : List ℕ) → Completes Register 67 d xs p
+    → Checked d.flags d.reception.spoiled (get_or xs 1 0) (completion_call d xs p)
+unfolding case_of tree_at trees eval perform register_transfer frame_done pick
+checked_lem d xs p h =
+    rw (straight h 67 refl (rw h.state h.state) refl, h.state)
+    (record {
+      command = sends _ _ (still (accepts h refl)) refl (rw h.is_under_way) (rw h.is_under_way);
+      flags = rw h.is_under_way (ap (set_flag crc_valid (bit_set 7 (get_or xs 1 0))) (same_flags d.flags h.handling));
+      spoils = rw h.is_under_way;
+    })
+
+-- ---- what is announced
+
 -- TRX_STATUS is read, as either way of the next state does
 abbrev status_read : Option Transfer
 status_read = Some (transfer_of kind.RegisterRead 16 17 0x81 0 2 2)
 
+-- the flags that 68 clears
+cleared : (f : Flags) → f.interrupt_handling ≡ false
+    → set_flag sleep_pending false (set_flag receiving false (set_flag interrupt_handling false f))
+    ≡ set_flag sleep_pending false (set_flag receiving false f)
+cleared f e = ap (λ g. set_flag sleep_pending false (set_flag receiving false g)) (same_flags f e)
+
 pub silent : (d : Driver) (xs p : List ℕ) → Completes Register 68 d xs p → d.reception.spoiled ≡ true
-    → EndsReception (line d.buffers) (actions []) (completion_call d xs p)
+    → EndsReception d.flags (line d.buffers) (actions []) (completion_call d xs p)
 unfolding case_of tree_at trees eval holds perform register_transfer frame_done pick
 silent d xs p h s =
     let none = refl {a = actions []} in
     let asks = refl {a = status_read} in
-    let clear = refl {a = false} in
+    let f = cleared d.flags h.handling in
     let l = refl {a = line d.buffers} in
     by_flag d.flags.transmitting
     (λ t. rw (straight h 68 refl (rw h.state h.state) refl, h.state, s, t, h.is_under_way)
-    (record { remain = l; shows = none; asks = asks; not_receiving = clear; no_stop = clear }))
+    (record { remain = l; shows = none; asks = asks; flags = rw t at f }))
     (λ t. rw (straight h 68 refl (rw h.state h.state) refl, h.state, s, t, h.is_under_way)
-    (record { remain = l; shows = none; asks = asks; not_receiving = clear; no_stop = clear }))
+    (record { remain = l; shows = none; asks = asks; flags = rw t at f }))
 
 pub told_length : (d : Driver) (xs p : List ℕ) (x : Lent) → Completes Register 68 d xs p → d.reception.spoiled ≡ false
     → d.clients.rx_client ≡ true → front (line d.buffers) ≡ Some x
-    → EndsReception (behind (line d.buffers)) (actions (Received x.buffer (d.reception.length - 2) d.flags.crc_valid ∷ []))
+    → EndsReception d.flags (behind (line d.buffers)) (actions (Received x.buffer (d.reception.length - 2) d.flags.crc_valid ∷ []))
     (completion_call d xs p)
 unfolding case_of tree_at trees eval holds perform register_transfer frame_done pick
-told_length d xs p x h s c f =
+told_length d xs p x h s c g =
     let l = listed_behind d.buffers.rx_line in
     let told = refl {a = actions (Received x.buffer (d.reception.length - 2) d.flags.crc_valid ∷ [])} in
     let asks = refl {a = status_read} in
-    let clear = refl {a = false} in
+    let f = cleared d.flags h.handling in
     by_flag d.flags.transmitting
-    (λ t. rw (straight h 68 refl (rw h.state h.state) refl, h.state, s, c, t, h.is_under_way, f)
-    (record { remain = l; shows = told; asks = asks; not_receiving = clear; no_stop = clear }))
-    (λ t. rw (straight h 68 refl (rw h.state h.state) refl, h.state, s, c, t, h.is_under_way, f)
-    (record { remain = l; shows = told; asks = asks; not_receiving = clear; no_stop = clear }))
+    (λ t. rw (straight h 68 refl (rw h.state h.state) refl, h.state, s, c, t, h.is_under_way, g)
+    (record { remain = l; shows = told; asks = asks; flags = rw t at f }))
+    (λ t. rw (straight h 68 refl (rw h.state h.state) refl, h.state, s, c, t, h.is_under_way, g)
+    (record { remain = l; shows = told; asks = asks; flags = rw t at f }))
+
+-- ---- refusal 12
+
+pub outside_lem : (d : Driver) (xs p : List ℕ) → within 65 68 (state_no d.state) ≡ true → within 11 127 d.reception.length ≡ false
+    → completion_call d xs p ≡ refusing 12 d p
+unfolding completion_call described pick
+outside_lem d xs p s e = rw (s, e) (simp or-true)

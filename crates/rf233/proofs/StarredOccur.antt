@@ -33,6 +33,7 @@ use Rattle.rf233.specs.declared.state.InternalState.TheVariants.{
   RX_READING_FRAME_LEN_DONE,
   RX_START_READING,
   RX_READING_FRAME,
+  RX_READING_FRAME_FCS_DONE,
   RX_ENABLING_RECEPTION,
 }
 use Rattle.rf233.proofs.LineRules.{MayReceive}
@@ -124,6 +125,7 @@ pub record Occurs : Type 0 where
   pub in_62 : Completes Register 62 (example RX_START_READING false false false true None two Register) (0 ∷ 0 ∷ []) pool
   -- whatever second length byte arrives, and whether the frame is spoiled or not
   pub in_65 : (r : ℕ) → Completes (FrameRead (lent 4 129)) 65 reading_one_of_four (0 ∷ r ∷ []) pool
+  pub in_67 : Completes Register 67 (during false RX_READING_FRAME_FCS_DONE) (0 ∷ 0 ∷ []) pool
   pub in_68 : (v : Bool) → Completes Register 68 (announcing v) (0 ∷ 0 ∷ []) pool
   pub four : receive_count reading_one_of_four.buffers ≡ 4
   pub other : MayReceive 8 129 × (record_has reading_one_of_four.buffers 8 ≡ false) × (record_has reading_one_of_four.buffers 6 ≡ true)
@@ -167,6 +169,7 @@ occurs =
       );
       in_62 = record { passes = passes _ refl; state = refl; is_under_way = refl; arrived = refl; handling = refl; pending = refl };
       in_65 = λ r. record { passes = passes _ refl; state = refl; is_under_way = refl; arrived = refl; handling = refl; pending = refl };
+      in_67 = registers 67 _ _ refl refl;
       in_68 = λ v. record { passes = passes _ refl; state = refl; is_under_way = refl; arrived = refl; handling = refl; pending = refl };
       four = refl;
       other = (record { client = refl; long = refl }, refl, refl);

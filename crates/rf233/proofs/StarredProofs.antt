@@ -38,8 +38,10 @@ use Rattle.rf233.proofs.StarredLengths.{
   below_range,
   same,
   differs,
+  checked_lem,
   silent,
   told_length,
+  outside_lem,
 }
 use Rattle.rf233.proofs.StarredCommit.{second, high, low, of_access, of_interrupt, both_bytes, during, busy, whole}
 use Rattle.rf233.proofs.Starred.{Passes12, In, MaySend, Sends, Takes, Told, StarredCases}
@@ -140,6 +142,8 @@ starred =
       second_1 = below_range 1 refl;
       second_same = same;
       second_differs = differs;
+      checked = checked_lem;
       not_announced = silent;
       announced = told_length;
+      outside = outside_lem;
     }
