@@ -26,6 +26,7 @@ answer_of_number answer.Pool = refl
 answer_of_number answer.Arrived = refl
 answer_of_number answer.Configure = refl
 answer_of_number answer.New = refl
+answer_of_number answer.Nothing = refl
 
 -- the number of the answer that a number from 0 to 15 has is that number
 pub number_of_answer : (n : ℕ) → n < 16 → answer_no (answer_of n) ≡ n

@@ -31,21 +31,25 @@ use Rattle.rf233.specs.Completion.{
   transfer_over,
   now_on,
 }
-use Rattle.rf233.specs.Driver.{with_state, with_buffers, flagged}
+use Rattle.rf233.specs.Driver.{with_state, with_buffers, flagged, with_command}
 use Rattle.rf233.specs.Driver.Flag.{receiving}
 use Rattle.rf233.specs.Guard.{Called, stepping}
 use Rattle.rf233.specs.Interrupt.{interrupt_state}
 use Rattle.rf233.specs.Kernel.{completion_call}
 use Rattle.rf233.specs.Rows.{eval, write}
-use Rattle.rf233.specs.Starter.{buffers_away, register_transfer}
+use Rattle.rf233.specs.Starter.{buffers_away, register_transfer, found, command_of, refrains}
 use Rattle.rf233.specs.State.{state_no, state_frame}
-use Rattle.rf233.specs.Step.{done_step, quiet, by_answer}
+use Rattle.rf233.specs.Step.{done_step, quiet, by_answer, step_of}
 use Rattle.rf233.specs.Transfer.{transfer_of, free_to_start}
 use Rattle.rf233.specs.Write.{value_of}
 use Rattle.rf233.specs.declared.answer.Outcome.{Outcome}
 use Rattle.rf233.specs.declared.arrived.Arrived.{Arrived}
+use Rattle.rf233.specs.declared.driver.Buffers.{Buffers}
+use Rattle.rf233.specs.declared.driver.Command.{Command}
 use Rattle.rf233.specs.declared.driver.Driver.{Driver}
-use Rattle.rf233.specs.declared.driver.Under.TheVariants.{Register}
+use Rattle.rf233.specs.declared.driver.Settings.{Settings}
+use Rattle.rf233.specs.declared.driver.Under.{Under}
+use Rattle.rf233.specs.declared.driver.Under.TheVariants.{Register, FrameRead, FrameWrite, Waits, Idle}
 use Rattle.rf233.specs.declared.state.InternalState.TheVariants.{CONFIG_SHORT0_SET}
 use Rattle.rf233.specs.declared.transfer.TransferKind.TheVariants as kind
 use Rattle.rf233.specs.declared.write.Value.TheVariants.{AddrLow}
@@ -58,10 +62,17 @@ use Rattle.rf233.proofs.Starred.{Accepts, In, Completes}
 use Rattle.rf233.proofs.StarredSteps.{sends, brought, still, accepted_step, straight, unmoved, write_case, Goes}
 use Rattle.rf233.proofs.Tables.{in_range_lem}
 
+-- the record once the first write has begun
+abbrev first_command : Settings → Command
+first_command s = command_of kind.RegisterWrite 0xE0 (value_of AddrLow s)
+
+abbrev first_away : Settings → Buffers → Buffers
+first_away s b = with_command (first_command s) (buffers_away Register b)
+
 -- the start of a commit: with no transfer under way the first write begins
 pub commit_begins : (d : Driver) → free_to_start d.buffers ≡ true → d.buffers.spi_tx ≡ true → d.buffers.spi_rx ≡ true
     → start_commit d
-    ≡ done_step (with_buffers (buffers_away Register d.buffers) (with_state CONFIG_SHORT0_SET d)) (Some (row_sends first_write d.settings))
+    ≡ done_step (with_buffers (first_away d.settings d.buffers) (with_state CONFIG_SHORT0_SET d)) (Some (row_sends first_write d.settings))
     (actions [])
 unfolding start_commit by_answer register_transfer pick
 commit_begins d f t r = rw (f, t, r)
@@ -69,7 +80,17 @@ commit_begins d f t r = rw (f, t, r)
 -- while one is under way nothing changes
 pub commit_waits : (d : Driver) → free_to_start d.buffers ≡ false → start_commit d ≡ quiet d (actions [])
 unfolding start_commit by_answer
-commit_waits d f = rw (register_refrains (with_state CONFIG_SHORT0_SET d) kind.RegisterWrite _ _ f)
+commit_waits d f =
+    rw (register_refrains (with_state CONFIG_SHORT0_SET d) kind.RegisterWrite _ _ f)
+    (waits_by d.buffers.under)
+  where
+    waits_by : (u : Under) → by_answer (found u) (step_of (refrains (with_state CONFIG_SHORT0_SET d)) (actions [])) (quiet d (actions []))
+        (quiet d (actions [])) ≡ quiet d (actions [])
+    waits_by Idle = refl
+    waits_by Register = refl
+    waits_by (FrameRead x) = refl
+    waits_by (FrameWrite x) = refl
+    waits_by (Waits o) = refl
 
 -- ---- the states 45 to 57
 
@@ -188,7 +209,7 @@ module _ {d : Driver} {xs p : List ℕ} (h : Accepts d xs p) (under : d.buffers.
     (starts : StartsFrom d (completed (arrived_of xs) d))
   where
     ready_is : completion_call d xs p
-        ≡ stepping (done_step (with_buffers (buffers_away Register d.buffers) (with_state CONFIG_SHORT0_SET starts.from))
+        ≡ stepping (done_step (with_buffers (first_away d.settings d.buffers) (with_state CONFIG_SHORT0_SET starts.from))
         (Some (row_sends first_write d.settings)) (actions [])) (brought d xs p)
     ready_is =
         let e = starts.from in
@@ -196,7 +217,7 @@ module _ {d : Driver} {xs p : List ℕ} (h : Accepts d xs p) (under : d.buffers.
         rw (
           accepted_step h,
           starts.is,
-          commit_begins e (rw (b, under)) (rw (b, under)) (rw (b, under)),
+          commit_begins e (rw b) (rw (b, under)) (rw (b, under)),
           b,
           under,
           starts.settings,
@@ -208,7 +229,7 @@ module _ {d : Driver} {xs p : List ℕ} (h : Accepts d xs p) (under : d.buffers.
         (record {
           sent = sends _ _ (still h) refl refl refl;
           pool = command_written_length _ _ ∙ still h;
-          buffers = same_record d h.passes.fit _ under refl;
+          buffers = same_record d h.passes.fit _ _ under refl;
           settings = starts.settings;
           handling = starts.handling;
           pending = starts.pending;

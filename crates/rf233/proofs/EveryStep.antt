@@ -38,7 +38,7 @@ use Rattle.rf233.specs.declared.state.InternalState.TheVariants.{
   TX_STATUS_PRECHECK1,
 }
 use Rattle.rf233.specs.declared.starter.StarterAnswer.{StarterAnswer}
-use Rattle.rf233.specs.declared.starter.StarterAnswer.TheVariants.{Began, UnderWay}
+use Rattle.rf233.specs.declared.starter.StarterAnswer.TheVariants.{Began, UnderWay, Waiting}
 use Rattle.rf233.specs.declared.transfer.Transfer.{Transfer}
 use Rattle.rf233.proofs.ChoiceLaws.{branch, either}
 
@@ -89,16 +89,17 @@ module _ (P : Outcome → Type 0) (G : Driver → Type 0) (kept : Kept G) (ends 
   unfolding completed
   completion_by a d g = either P _ _ _ (result a _ g) (ready a _ g)
 
--- what holds of both steps that a starter's answer decides between holds of the one that it decides for
-by_either : (P : Outcome → Type 0) (s : StarterAnswer) (x y : Outcome) → P x → P y → P (by_answer s x y)
+-- what holds of the steps that a starter's answer decides between holds of the one that it decides for
+by_any : (P : Outcome → Type 0) (s : StarterAnswer) (x y : Outcome) → P x → P y → P (by_answer s x y y)
 unfolding by_answer
-by_either P (Began t) x y p q = p
-by_either P UnderWay x y p q = q
+by_any P (Began t) x y p q = p
+by_any P UnderWay x y p q = q
+by_any P Waiting x y p q = q
 
 -- so of a commit's start: what holds of its first write and of the driver as it is
 pub commit_by : (P : Outcome → Type 0) (d : Driver) → P (table_write first_write d) → P (quiet d (actions [])) → P (start_commit d)
 unfolding start_commit
-commit_by P d p q = by_either P _ _ _ p q
+commit_by P d p q = by_any P _ _ _ p q
 
 -- what holds of every step that shows nothing
 abbrev pub OfSilent : (Outcome → Type 0) → Type 0

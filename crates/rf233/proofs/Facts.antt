@@ -1,16 +1,19 @@
 -- The control facts of a driver, by which it is steered: one record of them, and what a row, the return of the buffers and the next state
 -- make of them, each as one equation. Assumes nothing.
 use Prim.Native.Nat.{ℕ}
+use borrow.Author.Tests.{not-false}
 use mathlib.Core.Path.{◌≡◌, refl, ap, ◌∙◌, subst}
-use mathlib.Core.Bool.{Bool, true, false, ◌||◌, cond, or-false, or_assoc}
+use mathlib.Core.Bool.{Bool, true, false, ◌||◌, cond, or-false, or_assoc, not}
 use mathlib.Core.List.{List, [], ◌∷◌}
 use lib.Dec.{eqb}
+use native.Mathlib.Omega.{arith}
 use Rattle.rf233_const.specs.Bits.{bit_set}
 use Rattle.rf233_const.specs.Flags.{rx_crc_valid_bit}
 use Rattle.rf233.specs.Case.{handed, entering, without_tx, without_front, rotated}
 use Rattle.rf233.specs.Choice.{pick}
-use Rattle.rf233.specs.Completion.{buffers_back, frame_done, length_taken, transfer_over}
-use Rattle.rf233.specs.Described.{frame_no}
+use Rattle.rf233.specs.Completion.{buffers_back, frame_done, length_taken, transfer_over, places_back}
+use Rattle.rf233.specs.Decline.{waiting, declines}
+use Rattle.rf233.specs.Described.{frame_no, unplaced}
 use Rattle.rf233.specs.Driver.{Flag, Assignment, flag_no, flag, set_flag, assigning, with_flags, with_buffers}
 use Rattle.rf233.specs.Driver.Assignment.{put, put_crc}
 use Rattle.rf233.specs.Driver.Flag.{transmitting, interrupt_handling, crc_valid}
@@ -21,13 +24,16 @@ use Rattle.rf233.specs.Rows.{Shown, Next}
 use Rattle.rf233.specs.Rows.Next.{same, to}
 use Rattle.rf233.specs.Rows.Shown.{plain, power_changed, config_done, sent_back, dropped_back, received_back, received_kept}
 use Rattle.rf233.specs.State.{state_no}
+use Rattle.rf233.specs.Transfer.{waits, under_way, to_complete}
 use Rattle.rf233.specs.declared.arrived.Arrived.{Arrived}
 use Rattle.rf233.specs.declared.driver.Buffers.{Buffers}
 use Rattle.rf233.specs.declared.driver.Driver.{Driver}
+use Rattle.rf233.specs.declared.driver.Offer.TheVariants as offer
 use Rattle.rf233.specs.declared.driver.Under.{Under}
-use Rattle.rf233.specs.declared.driver.Under.TheVariants.{Idle, Register, FrameRead, FrameWrite}
+use Rattle.rf233.specs.declared.driver.Under.TheVariants.{Idle, Register, FrameRead, FrameWrite, Waits}
 use Rattle.rf233.specs.declared.reception.Reception.{Reception}
 use Rattle.rf233.specs.declared.state.InternalState.{InternalState}
+use Rattle.laws.proofs.Logic.{none_right}
 use Rattle.rf233.proofs.ChoiceLaws.{either}
 use Rattle.rf233.proofs.LineLaws.{some_is, some_rotate}
 
@@ -40,6 +46,9 @@ kind Idle = nothing
 kind Register = access
 kind (FrameRead x) = reading
 kind (FrameWrite x) = writing
+kind (Waits offer.Register) = access
+kind (Waits offer.FrameRead) = reading
+kind (Waits offer.FrameWrite) = writing
 
 abbrev pub is_none : Kind → Bool
 is_none nothing = true
@@ -59,9 +68,13 @@ frame_no_lem Idle = refl
 frame_no_lem Register = refl
 frame_no_lem (FrameRead x) = refl
 frame_no_lem (FrameWrite x) = refl
+frame_no_lem (Waits offer.Register) = refl
+frame_no_lem (Waits offer.FrameRead) = refl
+frame_no_lem (Waits offer.FrameWrite) = refl
 
--- the control facts: the kind of transfer under way, the state's number, whether there is a buffer in the transmit place and one in the
--- line, whether the driver is transmitting, whether it handles an interrupt, and whether the held length is a frame's
+-- the control facts: the kind of transfer under way or waiting, the state's number, whether there is a buffer in the transmit place and one
+-- in the line, whether the driver is transmitting, whether it handles an interrupt, whether the held length is a frame's, and whether the
+-- transfer waits
 pub record Facts : Type 0 where
   pub transfer : Kind
   pub state : ℕ
@@ -70,32 +83,33 @@ pub record Facts : Type 0 where
   pub sends : Bool
   pub handles : Bool
   pub in_range : Bool
+  pub parked : Bool
 
--- the facts of these seven
-abbrev pub facts : Kind → ℕ → Bool → Bool → Bool → Bool → Bool → Facts
-facts k n t r s h g = record { transfer = k; state = n; tx = t; rx = r; sends = s; handles = h; in_range = g }
+-- the facts of these eight
+abbrev pub facts : Kind → ℕ → Bool → Bool → Bool → Bool → Bool → Bool → Facts
+facts k n t r s h g w = record { transfer = k; state = n; tx = t; rx = r; sends = s; handles = h; in_range = g; parked = w }
 
 -- the facts of a driver
 abbrev pub of : Driver → Facts
 of d =
     facts (kind d.buffers.under) (state_no d.state) (is_some d.buffers.tx_buf) (some (line d.buffers))
-    (flag transmitting d.flags) (flag interrupt_handling d.flags) (in_range d.reception)
+    (flag transmitting d.flags) (flag interrupt_handling d.flags) (in_range d.reception) (waits d.buffers.under)
 
--- the same with another transfer, in another state, with other places, with other flags, with another held length
+-- the same with another transfer under way, in another state, with other places, with other flags, with another held length
 abbrev pub under : Kind → Facts → Facts
-under k c = facts k c.state c.tx c.rx c.sends c.handles c.in_range
+under k c = facts k c.state c.tx c.rx c.sends c.handles c.in_range false
 
 abbrev pub at : ℕ → Facts → Facts
-at n c = facts c.transfer n c.tx c.rx c.sends c.handles c.in_range
+at n c = facts c.transfer n c.tx c.rx c.sends c.handles c.in_range c.parked
 
 abbrev pub holding : Bool → Bool → Facts → Facts
-holding t r c = facts c.transfer c.state t r c.sends c.handles c.in_range
+holding t r c = facts c.transfer c.state t r c.sends c.handles c.in_range c.parked
 
 abbrev pub flags : Bool → Bool → Facts → Facts
-flags s h c = facts c.transfer c.state c.tx c.rx s h c.in_range
+flags s h c = facts c.transfer c.state c.tx c.rx s h c.in_range c.parked
 
 abbrev pub ranging : Bool → Facts → Facts
-ranging g c = facts c.transfer c.state c.tx c.rx c.sends c.handles g
+ranging g c = facts c.transfer c.state c.tx c.rx c.sends c.handles g c.parked
 
 -- ---- a row
 
@@ -216,24 +230,47 @@ done_no_lem false s = go (eqb (state_no s) 34) (eqb (state_no s) 63) (eqb (state
 abbrev pub back : Facts → Facts
 back c =
     facts nothing (done_no c.handles c.state) (eqb (frame_of c.transfer) 2 || c.tx) (eqb (frame_of c.transfer) 1 || c.rx)
-    c.sends false c.in_range
+    c.sends false c.in_range false
 
 -- the record's part of it
 record Returned (u : Under) (b c : Buffers) : Type 0 where
-  idle : kind c.under ≡ nothing
   tx : is_some c.tx_buf ≡ eqb (frame_of (kind u)) 2 || is_some b.tx_buf
   rx : some (line c) ≡ eqb (frame_of (kind u)) 1 || some (line b)
 
-returned : (u : Under) (b : Buffers) → b.under ≡ u → Returned u b (buffers_back u b)
-returned Idle b e = record { idle = ap kind e; tx = refl; rx = refl }
-returned Register b e = record { idle = refl; tx = refl; rx = refl }
-returned (FrameRead x) b e = record { idle = refl; tx = refl; rx = some_is (x ∷ line b) }
-returned (FrameWrite x) b e = record { idle = refl; tx = refl; rx = refl }
+returned : (u : Under) (b : Buffers) → unplaced u b ≡ false → Returned u b (places_back u b)
+returned Idle b e = record { tx = refl; rx = refl }
+returned Register b e = record { tx = refl; rx = refl }
+returned (FrameRead x) b e = record { tx = refl; rx = some_is (x ∷ line b) }
+returned (FrameWrite x) b e = record { tx = refl; rx = refl }
+returned (Waits offer.Register) b e = record { tx = refl; rx = refl }
+returned (Waits offer.FrameRead) b e = record { tx = refl; rx = not-false (some (line b)) (none_right (not b.spi_buf) _ e) }
+returned (Waits offer.FrameWrite) b e = record { tx = not-false (is_some b.tx_buf) (none_right (not b.spi_buf) _ e); rx = refl }
 
-pub over_is : (d : Driver) → of (transfer_over d) ≡ back (of d)
-over_is d =
-    let r = returned d.buffers.under d.buffers refl in
-    rw (r.idle, r.tx, r.rx, done_no_lem (flag interrupt_handling d.flags) d.state)
+-- while it is under way no place is asked for
+pub placed : (u : Under) (b : Buffers) → under_way u ≡ true → unplaced u b ≡ false
+placed u b i = grind arith
+
+pub over_is : (d : Driver) → unplaced d.buffers.under d.buffers ≡ false → of (transfer_over d) ≡ back (of d)
+over_is d e =
+    let r = returned d.buffers.under d.buffers e in
+    rw (r.tx, r.rx, done_no_lem (flag interrupt_handling d.flags) d.state)
+
+-- the facts once the transfer waits instead: the same places, and the state and the flags as they are
+abbrev pub parking : Facts → Facts
+parking c =
+    facts c.transfer c.state (eqb (frame_of c.transfer) 2 || c.tx) (eqb (frame_of c.transfer) 1 || c.rx) c.sends c.handles c.in_range true
+
+kind_waiting : (u : Under) → kind (waiting u) ≡ kind u
+kind_waiting u = grind arith
+
+pub waits_waiting : (u : Under) → under_way u ≡ true → waits (waiting u) ≡ true
+waits_waiting u i = grind arith
+
+pub declined_is : (d : Driver) → to_complete d.buffers ≡ true → of (declines d) ≡ parking (of d)
+declined_is d i =
+    let u = d.buffers.under in
+    let r = returned u d.buffers (placed u d.buffers i) in
+    rw (r.tx, r.rx, kind_waiting u, waits_waiting u i)
 
 -- ---- what a frame read brings
 

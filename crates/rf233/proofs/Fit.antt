@@ -23,11 +23,11 @@ use Rattle.rf233.specs.declared.arrived.Arrived.{Arrived}
 use Rattle.rf233.specs.declared.driver.Driver.{Driver}
 use Rattle.laws.proofs.Logic.{left, right, pair, or_left, imp, apply, all, all_at, all_below, below_at}
 use Rattle.rf233.proofs.Facts.{Kind, kind, is_none, frame_of, Facts, facts, of, under, at, holding, flags, settled, prepared, back}
-use Rattle.rf233.proofs.Facts.{Fuller, fuller, ranging, taken_is}
+use Rattle.rf233.proofs.Facts.{Fuller, fuller, ranging, taken_is, parking}
 use Rattle.rf233.proofs.Conditions.{by_flag}
 use Rattle.rf233.proofs.Facts.Kind.{nothing, access, reading, writing}
 use Rattle.rf233.proofs.Trees.{Known, leaves, row_of, known, row_known, same_self}
-use Rattle.std.specs.Prelude.{Some, None}
+use Rattle.std.specs.Prelude.{Some, None, cond}
 
 -- states 33 and 35 to 43 have the transmit buffer in its place; 62, 64 and 66 to 68 a receive buffer in the line
 abbrev pub met : Facts → Bool
@@ -35,12 +35,13 @@ met c =
     imp (eqb c.state 33 || (leb 35 c.state && leb c.state 43)) c.tx
     && imp (eqb c.state 62 || (eqb c.state 64 || (leb 66 c.state && leb c.state 68))) c.rx
 
--- by the transfer under way: a frame write has emptied its place; an interrupt is handled during a register transfer only
+-- by the transfer under way or waiting: a frame write has emptied its place, and has its buffer there again while it waits, as a frame
+-- read that waits has in the line; an interrupt is handled during a register transfer only
 abbrev pub fits : Kind → Facts → Bool
-fits nothing c = met c && (imp c.sends c.tx && not c.handles)
+fits nothing c = not c.parked && (met c && (imp c.sends c.tx && not c.handles))
 fits access c = met c && imp c.sends c.tx
-fits reading c = imp c.sends c.tx && not c.handles
-fits writing c = not c.tx && not c.handles
+fits reading c = imp c.sends c.tx && (not c.handles && imp c.parked c.rx)
+fits writing c = cond c.parked c.tx (not c.tx) && not c.handles
 
 -- the state names the frame transfer that is under way, and no other
 abbrev pub framed : Facts → Bool
@@ -87,7 +88,7 @@ kind_at f t writing = right (f reading) _ (right (f access) _ (right (f nothing)
 
 -- a test over all places and flags
 abbrev all_flags : Test → Kind → ℕ → Bool
-all_flags e k n = all λ t. all λ r. all λ s. all λ h. all λ g. e (facts k n t r s h g)
+all_flags e k n = all λ t. all λ r. all λ s. all λ h. all λ g. all λ w. e (facts k n t r s h g w)
 
 -- a test over all facts in state n, where the guard and the state's frame transfer allow them
 abbrev pub all_facts : Guard → Test → ℕ → Bool
@@ -99,15 +100,16 @@ pub facts_at : (g : Guard) (e : Test) → T (all_below (all_facts g e) 69) → (
 facts_at g e a c l y f =
     let n = c.state in
     let k = c.transfer in
-    all_at (λ g. e (facts k n c.tx c.rx c.sends c.handles g))
-    (all_at (λ h. all λ g. e (facts k n c.tx c.rx c.sends h g))
-    (all_at (λ s. all λ h. all λ g. e (facts k n c.tx c.rx s h g))
-    (all_at (λ r. all λ s. all λ h. all λ g. e (facts k n c.tx r s h g))
-    (all_at (λ t. all λ r. all λ s. all λ h. all λ g. e (facts k n t r s h g))
+    all_at (λ w. e (facts k n c.tx c.rx c.sends c.handles c.in_range w))
+    (all_at (λ g. all λ w. e (facts k n c.tx c.rx c.sends c.handles g w))
+    (all_at (λ h. all λ g. all λ w. e (facts k n c.tx c.rx c.sends h g w))
+    (all_at (λ s. all λ h. all λ g. all λ w. e (facts k n c.tx c.rx s h g w))
+    (all_at (λ r. all λ s. all λ h. all λ g. all λ w. e (facts k n c.tx r s h g w))
+    (all_at (λ t. all λ r. all λ s. all λ h. all λ g. all λ w. e (facts k n t r s h g w))
     (apply (framed c) (all_flags e k n)
     (apply (g k) (imp (framed c) (all_flags e k n))
     (kind_at (λ k. imp (g k) (imp (eqb (frame_of k) (state_frame n)) (all_flags e k n))) (below_at (all_facts g e) 69 a n l) k) y) f)
-    c.tx) c.rx) c.sends) c.handles) c.in_range
+    c.tx) c.rx) c.sends) c.handles) c.in_range) c.parked
 
 -- q holds wherever the record fits the state and p holds
 abbrev tested : Test → Test → Test
@@ -252,20 +254,47 @@ pub return_fits : Follows busy always (λ c. fit (back c))
 unfolding fit
 return_fits = law tt
 
--- a frame write's place is empty
-pub tx_empty : Follows any (λ c. eqb (frame_of c.transfer) 2) (λ c. not c.tx)
+-- or they return and the transfer waits
+pub decline_fits : Follows busy always (λ c. fit (parking c))
+unfolding fit
+decline_fits = law tt
+
+-- the facts where a transfer that waited does so no more, and what starts it again
+abbrev pub unparked : Facts → Facts
+unparked c = facts nothing c.state c.tx c.rx c.sends c.handles c.in_range false
+
+abbrev pub ok_again : Kind → Facts → Bool
+ok_again nothing c = true
+ok_again access c = fit (under access c)
+ok_again reading c = c.rx && fit (holding c.tx false (under reading c))
+ok_again writing c = c.tx && fit (holding false c.rx (under writing c))
+
+pub again_fits : Follows any (λ c. c.parked) (λ c. ok_again c.transfer (unparked c))
+unfolding fit
+again_fits = law tt
+
+-- a frame write that waits has its buffer in its place
+pub tx_home : Follows any (λ c. eqb (frame_of c.transfer) 2 && c.parked) (λ c. c.tx)
+unfolding fit
+tx_home = law tt
+
+-- a frame write under way has emptied its place
+pub tx_empty : Follows any (λ c. eqb (frame_of c.transfer) 2 && not c.parked) (λ c. not c.tx)
 unfolding fit
 tx_empty = law tt
 
--- the kind of transfer once a register transfer is asked for, whatever is under way, and the facts then, in state n
+-- the kind of transfer once a register transfer is asked for, whatever is under way or waits, and the facts then, in state n
 abbrev pub joins : Kind → Kind
 joins nothing = access
 joins access = access
 joins reading = reading
 joins writing = writing
 
+abbrev pub joined : Facts → Facts
+joined c = facts (joins c.transfer) c.state c.tx c.rx c.sends c.handles c.in_range c.parked
+
 abbrev pub join : ℕ → Facts → Facts
-join n c = at n (under (joins c.transfer) c)
+join n c = at n (joined c)
 
 -- `start`
 pub join_same : Follows any always (λ c. fit (join c.state c))
@@ -334,7 +363,7 @@ pub held_in_range : Follows any (λ c. leb 65 c.state && leb c.state 68) (λ c. 
 unfolding fit
 held_in_range = law tt
 
-pub buffer_there : Follows any (λ c. leb 64 c.state && leb c.state 68) (λ c. c.rx || eqb (frame_of c.transfer) 1)
+pub buffer_there : Follows any (λ c. leb 64 c.state && leb c.state 68) (λ c. c.rx || (eqb (frame_of c.transfer) 1 && not c.parked))
 unfolding fit
 buffer_there = law tt
 
@@ -344,8 +373,14 @@ pub fit_frame : Follows any always
 unfolding fit
 fit_frame = law tt
 
+abbrev pub home_missing : Kind → Facts → Bool
+home_missing nothing c = false
+home_missing access c = false
+home_missing reading c = not c.rx
+home_missing writing c = not c.tx
+
 pub fit_places : Follows any always
     (λ c. not (((one_of (33 ∷ 43 ∷ []) c.state && not c.tx) || (one_of (62 ∷ 64 ∷ 68 ∷ []) c.state && not c.rx))
-    || (within 65 68 c.state && not c.in_range)))
+    || ((within 65 68 c.state && not c.in_range) || (c.parked && home_missing c.transfer c))))
 unfolding fit
 fit_places = law tt

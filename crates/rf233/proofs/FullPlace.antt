@@ -34,6 +34,7 @@ use Rattle.rf233.specs.Described.{
   frame_unfit,
   buffer_missing,
   held_length_bad,
+  unplaced,
   described,
 }
 use Rattle.rf233.specs.Interrupt.{interrupt_state}
@@ -185,7 +186,7 @@ module _ (d : Driver) (e : described d ≡ false) where
   abbrev h : Bool
   h = d.flags.interrupt_handling
 
-  last_clauses : frame_unfit b.under n h || (buffer_missing b n || held_length_bad d.reception n) ≡ false
+  last_clauses : frame_unfit b.under n h || (buffer_missing b n || (held_length_bad d.reception n || unplaced b.under b)) ≡ false
   unfolding described
   last_clauses =
       none_right (crowded b) _
@@ -201,6 +202,11 @@ module _ (d : Driver) (e : described d ≡ false) where
   pub frame_named : eqb (frame_no b.under) (state_frame n) ≡ true
   frame_named = not-false (eqb (frame_no b.under) (state_frame n)) (none_left (not (eqb (frame_no b.under) (state_frame n))) _ unfit)
 
+  home : unplaced b.under b ≡ false
+  home =
+      none_right (held_length_bad d.reception n) _
+      (none_right (buffer_missing b n) _ (none_right (frame_unfit b.under n h) _ last_clauses))
+
   over : Holds (transfer_over d)
   over =
       let c = of d in
@@ -209,7 +215,7 @@ module _ (d : Driver) (e : described d ≡ false) where
       let framed-so : T (framed c) = rw (← frame_no_lem b.under, frame_named) tt in
       let clear : T (not (ltb 0 (frame_of (kind b.under)) && h)) =
       rw (← frame_no_lem b.under, none_right (not (eqb (frame_no b.under) (state_frame n))) with-frame unfit) tt in
-      subst (λ c. T (not (gone c))) (sym (over_is d))
+      subst (λ c. T (not (gone c))) (sym (over_is d home))
       (apply (not (gone c)) (not (gone (back c)))
       (apply (not (ltb 0 (frame_of (kind b.under)) && h)) _
       (facts_at fit.any return_test return_keeps c (state_below d.state) tt framed-so) clear) found)

@@ -11,7 +11,8 @@ use borrow.Author.Tests.{leb-false}
 use Rattle.std.specs.Prelude.{Option, None, Some, is_some}
 use Rattle.std.proofs.lemmas.List.{append_assoc}
 use Rattle.rf233.specs.Case.{accessed}
-use Rattle.rf233.specs.Completion.{buffers_back}
+use Rattle.rf233.specs.Completion.{buffers_back, places_back}
+use Rattle.rf233.specs.Decline.{again}
 use Rattle.rf233.specs.Driver.{with_line}
 use Rattle.rf233.specs.Line.{line_room, line, front, append}
 use Rattle.rf233.specs.OneBuffer.{reading, in_turn}
@@ -25,8 +26,9 @@ use Rattle.rf233.specs.declared.arrived.Arrived.{Arrived}
 use Rattle.rf233.specs.declared.driver.Buffers.{Buffers}
 use Rattle.rf233.specs.declared.driver.Driver.{Driver}
 use Rattle.rf233.specs.declared.driver.Lent.{Lent}
+use Rattle.rf233.specs.declared.driver.Offer.TheVariants as offer
 use Rattle.rf233.specs.declared.driver.Under.{Under}
-use Rattle.rf233.specs.declared.driver.Under.TheVariants.{Idle, Register, FrameRead, FrameWrite}
+use Rattle.rf233.specs.declared.driver.Under.TheVariants.{Idle, Register, FrameRead, FrameWrite, Waits}
 use Rattle.rf233.specs.declared.starter.Started.{Started}
 use Rattle.rf233.specs.declared.transfer.TransferKind.{TransferKind}
 use Rattle.laws.proofs.Logic.{left, is_true}
@@ -72,15 +74,26 @@ module _ (e : Driver) (i : e.buffers.under ≡ Idle) where
   access_turn reads_frame a l = read_turn (front (line e.buffers)) e.reception.length refl
   access_turn writes_frame a l = write_turn e.buffers.tx_buf
 
--- the transfer is over
-pub back_turn : (r : Buffers) → receive_count r ≤ line_room → line (buffers_back r.under r) ≡ in_turn r
+-- a transfer that waited, once it does so no more
+pub again_turn : (u : Under) (e : Driver) → e.buffers.under ≡ Idle → in_turn (again u e).driver.buffers ≡ in_turn e.buffers
+again_turn Idle e i = refl
+again_turn Register e i = refl
+again_turn (FrameRead x) e i = refl
+again_turn (FrameWrite x) e i = refl
+again_turn (Waits offer.Register) e i = register_turn _ _ _ e
+again_turn (Waits offer.FrameRead) e i = read_turn e i (front (line e.buffers)) _ refl
+again_turn (Waits offer.FrameWrite) e i = write_turn e i e.buffers.tx_buf
+
+-- the transfer is over, or waits
+pub back_turn : (r : Buffers) → receive_count r ≤ line_room → line (places_back r.under r) ≡ in_turn r
 back_turn r h = go r.under h
   where
-    go : (u : Under) → length (line r) + one (is_some (rx_under_way u)) ≤ line_room → line (buffers_back u r) ≡ reading u ++ line r
+    go : (u : Under) → length (line r) + one (is_some (rx_under_way u)) ≤ line_room → line (places_back u r) ≡ reading u ++ line r
     go Idle h = refl
     go Register h = refl
     go (FrameRead x) h = listed_is (x ∷ line r) (omega arith)
     go (FrameWrite x) h = refl
+    go (Waits o) h = refl
 
 -- a buffer is lent where there is room for it
 pub append_turn : (r : Buffers) (x : Lent) → leb line_room (receive_count r) ≡ false

@@ -9,6 +9,7 @@ pub mod Facts
 pub mod Fit
 pub mod EveryStep
 pub mod RowLaws
+pub mod DeclineLaws
 pub mod ReceptionLaws
 pub mod PoolLaws
 pub mod PoolUnread
@@ -19,6 +20,7 @@ pub mod StarredLengths
 pub mod StarredProofs
 pub mod StarredCommit
 pub mod OwnBuffers
+pub mod StarterSays
 pub mod StarredSteps
 pub mod StarredOccur
 pub mod CommitLaws
@@ -26,7 +28,11 @@ pub mod CommitClaim
 pub mod Twice
 pub mod Regrouped
 pub mod FullPlace
+pub mod DeclinedFit
+pub mod DeclinedThenResumed
+pub mod WhileWaiting
 pub mod EveryCall
+pub mod OfferLaws
 pub mod InTurn
 pub mod OneBuffer
 pub mod LineRules

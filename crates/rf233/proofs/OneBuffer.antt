@@ -28,10 +28,13 @@ use Rattle.rf233.specs.Calls.Call.{
   address_long,
   power,
   listener,
+  declined,
+  resume,
 }
 use Rattle.rf233.specs.Case.{case_of, entering, handed, own_case, perform, rotated, shown, trees, tree_at, without_front, without_tx}
 use Rattle.rf233.specs.Completion.{completed, transfer_over}
 use Rattle.rf233.specs.Data.{rx_full}
+use Rattle.rf233.specs.Decline.{waiting, declines, resumed}
 use Rattle.rf233.specs.Described.{described}
 use Rattle.rf233.specs.Driver.{assigning, with_buffers}
 use Rattle.rf233.specs.Interrupt.{handle_interrupt}
@@ -44,13 +47,14 @@ use Rattle.rf233.specs.Rows.Row.{does}
 use Rattle.rf233.specs.Rows.Shown.{plain, power_changed, config_done, sent_back, dropped_back, received_back, received_kept}
 use Rattle.rf233.specs.Starter.{register_transfer}
 use Rattle.rf233.specs.Step.{step_of}
+use Rattle.rf233.specs.Transfer.{waits, under_way, to_complete, to_resume}
 use Rattle.rf233.specs.declared.answer.Outcome.{Outcome}
 use Rattle.rf233.specs.declared.arrived.Arrived.{Arrived}
 use Rattle.rf233.specs.declared.driver.Buffers.{Buffers}
 use Rattle.rf233.specs.declared.driver.Driver.{Driver}
 use Rattle.rf233.specs.declared.driver.Lent.{Lent}
 use Rattle.rf233.specs.declared.driver.Under.{Under}
-use Rattle.rf233.specs.declared.driver.Under.TheVariants.{Idle, Register, FrameRead, FrameWrite}
+use Rattle.rf233.specs.declared.driver.Under.TheVariants.{Idle, Register, FrameRead, FrameWrite, Waits}
 use Rattle.rf233.specs.declared.transfer.TransferKind.{TransferKind}
 use Rattle.laws.proofs.Logic.{all_below}
 use Rattle.rf233.proofs.ChoiceLaws.{either}
@@ -59,7 +63,7 @@ use Rattle.rf233.proofs.EveryCall.{Lays, every_call, laid, left_keeps, lending}
 use Rattle.rf233.proofs.RowLaws.{entering_record, handed_keeps}
 use Rattle.rf233.proofs.EveryStep.{Ends, Kept, commit_by, completion_by}
 use Rattle.rf233.proofs.Sound.{uncrowded}
-use Rattle.rf233.proofs.InTurn.{access_turn, append_turn, back_turn, register_turn}
+use Rattle.rf233.proofs.InTurn.{access_turn, append_turn, back_turn, register_turn, again_turn}
 use Rattle.rf233.proofs.LineLaws.{listed_behind, listed_rotate}
 use Rattle.rf233.proofs.Trees.{leaves, row_of, row_of_lem, unknown}
 
@@ -203,6 +207,8 @@ laid_moved stop d r = stays
 laid_moved commit d r = stays
 laid_moved fire d r = stays
 laid_moved query d r = stays
+laid_moved declined d r = stays
+laid_moved resume d r = stays
 laid_moved (complete xs) d r = stays
 laid_moved (transmit b l n) d r = stays
 laid_moved (receive_buffer b l) d r =
@@ -216,12 +222,26 @@ laid_moved (address_long l) d r = stays
 laid_moved (power t) d r = stays
 laid_moved (listener x v) d r = stays
 
+-- a transfer that waits has no receive buffer
+pub reading_waits : (u : Under) → waits u ≡ true → reading u ≡ []
+reading_waits u i = grind arith
+
+reading_waiting : (u : Under) → under_way u ≡ true → reading (waiting u) ≡ []
+reading_waiting u i = grind arith
+
 module _ (d : Driver) where
   abbrev Moves : Call → Driver → Type 0
   Moves c e = Moved c (in_turn d.buffers) (in_turn e.buffers)
 
   begun : (c : Call) (e : Driver) → Lays c d e → Moves c e
   begun c e y = subst (λ b. Moved c (in_turn d.buffers) (in_turn b)) (sym y.buffers) (laid_moved c d y.room)
+
+  -- a decline puts a frame read's buffer in front again, and a resume takes the front
+  pub declined_turn : described d ≡ false → to_complete d.buffers ≡ true → in_turn (declines d).buffers ≡ in_turn d.buffers
+  declined_turn e i = rw (reading_waiting d.buffers.under i) (back_turn d.buffers (uncrowded d e))
+
+  pub resumed_turn : to_resume d.buffers ≡ true → in_turn (resumed d).driver.buffers ≡ in_turn d.buffers
+  resumed_turn i = again_turn d.buffers.under _ refl ∙ rw (reading_waits d.buffers.under i) refl
 
   moves : (c : Call) (p : List ℕ) → Moves c (yields d c p).driver
   moves c p =
@@ -234,6 +254,8 @@ module _ (d : Driver) where
         writes = λ c x z e q y. subst (Moved c (in_turn d.buffers)) (sym (register_turn _ _ _ e)) (begun c e y);
         resets = λ v e q y. begun (reset v) e y;
         completes = λ xs q e i. completion_moves xs (arrived_of xs) d e;
+        declines = λ e i. subst (Moved declined (in_turn d.buffers)) (sym (declined_turn e i)) stays;
+        resumes = λ q e i. subst (Moved resume (in_turn d.buffers)) (sym (resumed_turn i)) stays;
       }) c
 
 -- ---- one buffer
@@ -251,6 +273,7 @@ turn_length r = go r.under
     go Register = omega arith
     go (FrameRead x) = omega arith
     go (FrameWrite x) = omega arith
+    go (Waits o) = omega arith
 
 found : (s : Option Lent) → front (as_list s) ≡ s
 found None = refl

@@ -1,5 +1,6 @@
 -- The own buffers of a driver that refusal 12 does not describe: each is in its own place where no transfer has it, and only there; what
 -- of the driver may change without 12 coming to describe it; a new driver. Assumes nothing.
+use Rattle.std.proofs.Common.{◌+◌}
 use mathlib.Core.Path.{◌≡◌, refl, sym, ◌∙◌}
 use mathlib.Core.Bool.{Bool, true, false, not, ◌&&◌, ◌||◌, and-false}
 use mathlib.Core.List.{List, [], ◌∷◌}
@@ -10,13 +11,15 @@ use borrow.Author.Tests.{ne_eqb, ltb-true, ltb-false, leb-true, le-leb, not-fals
 use Rattle.std.specs.Prelude.{Option, None, Some}
 use Rattle.rf233.specs.Choice.{pick, one_of, within}
 use Rattle.rf233.specs.Create.{new_driver}
+use Rattle.rf233.specs.Driver.{with_command}
 use Rattle.rf233.specs.Line.{line, any_of, names}
 use Rattle.rf233.specs.Described.{described, is_above, slot_above, client_above, recorded_twice, own_nowhere, twice_below, frame_no}
 use Rattle.rf233.specs.Record.{count_of, slot_has, under_has, own_has, one, record_has, times}
 use Rattle.rf233.specs.State.{state_no, state_frame}
-use Rattle.rf233.specs.Starter.{buffers_away, refrains, register_transfer}
-use Rattle.rf233.specs.Transfer.{under_way, free_to_start}
+use Rattle.rf233.specs.Starter.{buffers_away, refrains, register_transfer, begun, found}
+use Rattle.rf233.specs.Transfer.{under_way, free_to_start, waits}
 use Rattle.rf233.specs.declared.driver.Buffers.{Buffers}
+use Rattle.rf233.specs.declared.driver.Command.{Command}
 use Rattle.rf233.specs.declared.driver.Driver.{Driver}
 use Rattle.rf233.specs.declared.driver.Lent.{Lent}
 use Rattle.rf233.specs.declared.driver.Under.{Under}
@@ -36,6 +39,16 @@ only_17 t false s = simp and-false
 pub only_18 : (t r s : Bool) → (t && false) || ((r && false) || (s && true)) ≡ s
 only_18 t r true = simp and-false
 only_18 t r false = simp and-false
+
+-- that a buffer is one of two, of the three own ones, of the first two of these, as a number
+pub of_two : (m n b : ℕ) → eqb m n ≡ false → one (eqb m b || eqb n b) ≡ one (eqb m b) + one (eqb n b)
+of_two m n b h = grind arith
+
+pub of_three : (b : ℕ) → one (eqb 16 b || (eqb 17 b || eqb 18 b)) ≡ one (eqb 16 b) + (one (eqb 17 b) + one (eqb 18 b))
+of_three b = grind arith
+
+pub of_first : (b : ℕ) → one (eqb 16 b || (eqb 17 b || false)) ≡ one (eqb 16 b) + one (eqb 17 b)
+of_first b = grind arith
 
 one_none : (b : Bool) → one b ≤ 0 → b ≡ false
 one_none true h = absurd (omega arith)
@@ -112,10 +125,10 @@ module _ (d : Driver) (f : described d ≡ false) where
       ∙ home r 18 (lit< tt) above (not-false (record_has r 18)
       (none_right (not (record_has r 17)) _ (none_right (not (record_has r 16)) _ nowhere))) u
 
-  -- while a register transfer is under way, the record with another one under way is the same
-  pub same_record : (x : Buffers) → d.buffers.under ≡ Register
-      → x ≡ buffers_away Register d.buffers → x ≡ d.buffers
-  same_record x u e =
+  -- while a register transfer is under way, the record with another one under way is the same but for the command
+  pub same_record : (x : Buffers) (c : Command) → d.buffers.under ≡ Register
+      → x ≡ with_command c (buffers_away Register d.buffers) → x ≡ with_command c d.buffers
+  same_record x c u e =
       let b = d.buffers in
       let t = sym (only_16 b.spi_tx b.spi_rx b.spi_buf) ∙ away b 16
       (none_right (twice_below b 16) _ (none_left (twice_below b 17) _ (none_left (twice_below b 18) _ twice))) (rw u) in
@@ -131,12 +144,16 @@ module _ (d : Driver) (f : described d ≡ false) where
       let c = ltb-false 15 x.buffer (rw u at e) in
       (tx_home (rw (u, ne_eqb x.buffer 16 (λ q. omega arith))), rx_home (rw (u, ne_eqb x.buffer 17 (λ q. omega arith))))
 
--- no transfer is under way; one is, and it is no frame transfer
-pub idle_is : (u : Under) → not (under_way u) ≡ true → u ≡ Idle
+-- no transfer is under way or waits; one is under way, and it is no frame transfer
+pub idle_is : (u : Under) → not (under_way u || waits u) ≡ true → u ≡ Idle
 idle_is u e = grind arith
 
 pub register_is : (u : Under) → under_way u ≡ true → eqb (frame_no u) 0 ≡ true → u ≡ Register
 register_is u e f = grind arith
+
+-- what a starter found that does not begin gives no transfer
+pub found_none : (u : Under) → begun (found u) ≡ None
+found_none u = grind arith
 
 -- where none may begin, a register transfer does not
 pub register_refrains : (d : Driver) (k : TransferKind) (x y : ℕ) → free_to_start d.buffers ≡ false → register_transfer k x y d ≡ refrains d
@@ -150,11 +167,11 @@ pub record Plain (n : ℕ) : Type 0 where
   pub receives : one_of (62 ∷ 64 ∷ 68 ∷ []) n ≡ false
   pub reads_out : within 65 68 n ≡ false
 
--- from one such state to another, the record the same, 12 describes the driver as little as before
-pub moved : (n m : ℕ) (d e : Driver) → Plain n → Plain m → state_no d.state ≡ n → state_no e.state ≡ m → d.buffers.under ≡ Register
-    → e.buffers ≡ d.buffers → described e ≡ described d
-unfolding described
-moved n m d e c f s t u b = rw (b, u, s, t, c.names, c.sends, c.receives, f.names, f.sends, f.receives, c.reads_out, f.reads_out)
+-- from one such state to another, the record the same but for the command, 12 describes the driver as little as before
+pub moved : (n m : ℕ) (d e : Driver) (x : Command) → Plain n → Plain m → state_no d.state ≡ n → state_no e.state ≡ m
+    → d.buffers.under ≡ Register → e.buffers ≡ with_command x d.buffers → described e ≡ described d
+unfolding described count_of
+moved n m d e x c f s t u b = rw (b, u, s, t, c.names, c.sends, c.receives, f.names, f.sends, f.receives, c.reads_out, f.reads_out)
 
 -- a new driver
 pub new_fit : (l c : ℕ) → within 129 160 l ≡ true → described (new_driver l c) ≡ false

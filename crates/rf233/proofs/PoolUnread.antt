@@ -22,12 +22,14 @@ use Rattle.rf233.specs.Calls.Call.{
   address_long,
   power,
   listener,
+  declined,
+  resume,
 }
 use Rattle.rf233.specs.Choice.{pick}
 use Rattle.rf233.specs.Config.{start_call, stop_call, commit_call}
 use Rattle.rf233.specs.Data.{transmit_call}
 use Rattle.rf233.specs.Guard.{Called, guarded, refusing}
-use Rattle.rf233.specs.Kernel.{completing, completion_call, fired_call}
+use Rattle.rf233.specs.Kernel.{completing, completion_call, fired_call, declined_call, resume_call}
 use Rattle.rf233.specs.declared.driver.Driver.{Driver}
 
 -- the same but for the pool
@@ -64,6 +66,14 @@ module _ (d : Driver) (p q : List ℕ) (e : length p ≡ length q) where
   unfolding completion_call completing
   same_completion xs = guards _ _ (both _ _ _ _ _ refl (both _ _ _ _ _ refl refl))
 
+  same_declined : Same (declined_call d p) (declined_call d q)
+  unfolding declined_call
+  same_declined = guards _ _ (both _ _ _ _ _ refl refl)
+
+  same_resume : Same (resume_call d p) (resume_call d q)
+  unfolding resume_call
+  same_resume = guards _ _ (both _ _ _ _ _ refl refl)
+
   same_transmit : (b l n : ℕ) → Same (transmit_call d b l n p) (transmit_call d b l n q)
   unfolding transmit_call
   same_transmit b l n =
@@ -77,6 +87,8 @@ module _ (d : Driver) (p q : List ℕ) (e : length p ≡ length q) where
   same_yield commit = same_commit
   same_yield fire = same_fire
   same_yield query = refl
+  same_yield declined = same_declined
+  same_yield resume = same_resume
   same_yield (complete xs) = same_completion xs
   same_yield (transmit b l n) = same_transmit b l n
   same_yield (receive_buffer b l) = refl

@@ -12,7 +12,7 @@ use Rattle.rf233.specs.declared.driver.Driver.{Driver}
 use Rattle.rf233.proofs.Accepted.{IsDone, done_completed}
 use Rattle.rf233.proofs.ChoiceLaws.{branch, either}
 use Rattle.rf233.specs.Calls.{Call, made, with_pool}
-use Rattle.rf233.specs.Calls.Call.{complete, reset}
+use Rattle.rf233.specs.Calls.Call.{complete, reset, declined, resume}
 use Rattle.rf233.specs.Refusal.{TurnedDown, left_by, answered, RefusedAltersNothing, RefusedNew, HeldIsRefused}
 use Rattle.rf233.specs.Arrived.{arrived_of}
 use Rattle.rf233.proofs.EveryCall.{every_call}
@@ -35,6 +35,8 @@ module _ (d : Driver) (p : List ℕ) where
         writes = λ c x y e q s. done c _ refl;
         resets = λ v e q s. done (reset v) _ refl;
         completes = λ xs q e i. done (complete xs) _ (done_completed (arrived_of xs) d);
+        declines = λ e i. done declined _ refl;
+        resumes = λ q e i. done resume _ refl;
       })
 
 -- DEMAND 1

@@ -15,13 +15,13 @@ use Rattle.rf233.specs.Record.{one, tx_under_way, rx_under_way}
 use Rattle.rf233.specs.State.{state_no, state_frame}
 use Rattle.rf233.specs.Described.{is_above, slot_above, under_slot, named_in, meets, repeats, receive_length_bad, own_wrong}
 use Rattle.rf233.specs.Described.{tx_length_bad, rx_length_bad, length_bad, held_besides, crowded, frame_no, frame_unfit, frame_bad}
-use Rattle.rf233.specs.Described.{buffer_missing, held_length_bad, described, by_place}
+use Rattle.rf233.specs.Described.{buffer_missing, held_length_bad, described, by_place, unplaced}
 use Rattle.rf233.specs.Choice.{within}
 use Rattle.rf233.specs.declared.driver.Buffers.{Buffers}
 use Rattle.rf233.specs.declared.driver.Driver.{Driver}
 use Rattle.rf233.specs.declared.driver.Lent.{Lent}
 use Rattle.rf233.specs.declared.driver.Under.{Under}
-use Rattle.rf233.specs.declared.driver.Under.TheVariants.{Idle, Register, FrameRead, FrameWrite}
+use Rattle.rf233.specs.declared.driver.Under.TheVariants.{Idle, Register, FrameRead, FrameWrite, Waits}
 use Rattle.rf233.proofs.Conditions.{by_flag}
 use Rattle.rf233.proofs.LineLaws.{listed_most}
 use Rattle.rf233.proofs.Twice.{uncounted, pairs, meets_empty}
@@ -79,22 +79,23 @@ module _ (n : ℕ) (handling : Bool) (l : List Lent) (room : length l ≤ line_r
       rw (no_more (length l) room)
       (writing_order (is_above x ∷ meets (names l) (x.buffer ∷ []) ∷ not (within 2 127 n && within (n + 3) 160 x.length) ∷ handling ∷ []))
   frame_asked (FrameWrite x) (Some y) = simp or-true
+  frame_asked (Waits o) tx = rw (no_more (length l) room) (simp (meets_empty, and-false, or-false))
 
--- all the tests, clause by clause and place by place; 0 to 19 are `tests` below
+-- all the tests, clause by clause and place by place; 0 to 20 are `tests` below
 abbrev in_clauses : Tests
 in_clauses =
     any_of (any_of (test 2) (any_of (test 4) (test 9)))
     (any_of (any_of (any_of (test 6) (test 10)) (any_of (test 11) (test 7)))
     (any_of (test 8)
     (any_of (any_of (test 0) (any_of (test 1) (any_of (test 3) (any_of (test 12) (any_of (test 5) (test 13))))))
-    (any_of (test 14) (any_of (test 15) (any_of (any_of (test 17) (test 16)) (any_of (test 18) (test 19))))))))
+    (any_of (test 14) (any_of (test 15) (any_of (any_of (test 17) (test 16)) (any_of (test 18) (any_of (test 19) (test 20)))))))))
 
 abbrev in_places : Tests
 in_places =
     any_of (test 0) (any_of (test 1) (any_of (any_of (test 2) (test 3))
     (any_of (any_of (any_of (test 4) (test 5)) (any_of (test 7) (test 6)))
-    (any_of (any_of (test 8) (any_of (test 9) (any_of (test 10) (any_of (test 11)
-    (any_of (test 12) (any_of (test 13) (any_of (test 14) (any_of (test 15) (test 16)))))))))
+    (any_of (any_of (any_of (test 8) (any_of (test 9) (any_of (test 10) (any_of (test 11)
+    (any_of (test 12) (any_of (test 13) (any_of (test 14) (any_of (test 15) (test 16))))))))) (test 20))
     (any_of (test 17) (any_of (test 18) (test 19)))))))
 
 module _ (d : Driver) where
@@ -122,7 +123,11 @@ module _ (d : Driver) where
   abbrev length_unfit : Bool
   length_unfit = held_length_bad d.reception (state_no d.state)
 
-  -- spi_buf's two lengths; the places, the line and what both name; the transfer and its buffer; the state; the held length
+  abbrev home_missing : Bool
+  home_missing = unplaced r.under r
+
+  -- spi_buf's two lengths; the places, the line and what both name; the transfer and its buffer; the state; the held length; the places
+  -- of a transfer that waits
   abbrev tests : List Bool
   tests =
       not (within 129 160 r.spi_buf_whole) ∷ not (within 2 r.spi_buf_whole r.spi_buf_len) ∷ slot_above tx
@@ -130,7 +135,7 @@ module _ (d : Driver) where
       ∷ meets (named_in tx) (names rx) ∷ repeats (names rx) ∷ own_wrong r.under r ∷ slot_above going
       ∷ meets (named_in tx) (named_in going) ∷ meets (names rx) (named_in going) ∷ tx_length_bad (tx_under_way r.under) r.tx_len
       ∷ rx_length_bad (rx_under_way r.under) ∷ held_besides r ∷ crowded r ∷ (ltb 0 (frame_no r.under) && handling) ∷ unfit ∷ missing
-      ∷ length_unfit ∷ []
+      ∷ length_unfit ∷ home_missing ∷ []
 
   pub regrouped : by_place d ≡ described d
   unfolding described
@@ -138,5 +143,6 @@ module _ (d : Driver) where
       rw (← frame_asked r.tx_len handling rx (listed_most r.rx_line) r.under tx, any_two is_above receive_length_bad rx)
       (logic.regrouped (of tests) in_places in_clauses tt tt
       ∙ sym (uncounted r
-      (length_bad r || (held_besides r || (crowded r || (frame_unfit r.under (state_no d.state) handling || (missing || length_unfit)))))
+      (length_bad r || (held_besides r || (crowded r || (frame_unfit r.under (state_no d.state) handling
+      || (missing || (length_unfit || home_missing))))))
       ∙ rw (← pairs tx going (names rx))))

@@ -4,6 +4,7 @@ use mathlib.Core.List.{List, [], ◌∷◌}
 use Prim.Native.Nat.{ℕ}
 use Rattle.std.specs.Prelude.{Option, None, Some}
 use Rattle.rf233.specs.Case.{accessed, entering, handed, rotated, without_front, without_tx}
+use Rattle.rf233.specs.Decline.{again}
 use Rattle.rf233.specs.Driver.{Assignment, assigning, with_buffers}
 use Rattle.rf233.specs.Line.{line, front}
 use Rattle.rf233.specs.Rows.{Access, Next, Shown}
@@ -16,6 +17,9 @@ use Rattle.rf233.specs.declared.arrived.Arrived.{Arrived}
 use Rattle.rf233.specs.declared.driver.Buffers.{Buffers}
 use Rattle.rf233.specs.declared.driver.Driver.{Driver}
 use Rattle.rf233.specs.declared.driver.Lent.{Lent}
+use Rattle.rf233.specs.declared.driver.Offer.TheVariants as offer
+use Rattle.rf233.specs.declared.driver.Under.{Under}
+use Rattle.rf233.specs.declared.driver.Under.TheVariants.{FrameRead, FrameWrite, Waits, Idle, Register}
 use Rattle.rf233.specs.declared.starter.Started.{Started}
 use Rattle.rf233.specs.declared.transfer.TransferKind.{TransferKind}
 use Rattle.rf233.proofs.ChoiceLaws.{either}
@@ -68,3 +72,12 @@ module _ (P : Driver → Type 0) (d : Driver) (any : (b : Buffers) → P (with_b
   access_by reads_length a l = read_by (front (line d.buffers)) 0
   access_by reads_frame a l = read_by (front (line d.buffers)) d.reception.length
   access_by writes_frame a l = write_by d.buffers.tx_buf
+
+  pub again_by : (u : Under) → P (again u d).driver
+  again_by Idle = any _
+  again_by Register = any _
+  again_by (FrameRead x) = any _
+  again_by (FrameWrite x) = any _
+  again_by (Waits offer.Register) = register_by _ _ _
+  again_by (Waits offer.FrameRead) = read_by (front (line d.buffers)) _
+  again_by (Waits offer.FrameWrite) = write_by d.buffers.tx_buf

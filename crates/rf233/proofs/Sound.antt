@@ -11,7 +11,7 @@ use lib.ListN.{length}
 use Rattle.rf233.specs.Pool.{read_buffer, write_length, read_length, shorter}
 use Rattle.rf233.specs.Line.{line_room, line, any_of}
 use Rattle.rf233.specs.Described.{is_above, slot_above, under_slot, client_above, recorded_twice, own_nowhere, length_bad, held_besides}
-use Rattle.rf233.specs.Described.{crowded, frame_unfit, buffer_missing, described}
+use Rattle.rf233.specs.Described.{crowded, frame_unfit, buffer_missing, described, held_length_bad}
 use Rattle.rf233.specs.Reception.{in_range}
 use Rattle.rf233.specs.State.{state_no}
 use Rattle.rf233.specs.Record.{receive_count}
@@ -20,7 +20,7 @@ use Rattle.rf233.specs.Guard.{pool_fault}
 use Rattle.rf233.specs.declared.driver.Buffers.{Buffers}
 use Rattle.rf233.specs.declared.driver.Driver.{Driver}
 use Rattle.rf233.specs.declared.driver.Under.{Under}
-use Rattle.rf233.specs.declared.driver.Under.TheVariants.{Idle, Register, FrameRead, FrameWrite}
+use Rattle.rf233.specs.declared.driver.Under.TheVariants.{Idle, Register, FrameRead, FrameWrite, Waits}
 use Rattle.laws.proofs.Logic.{none_left, none_right, both_right}
 
 -- a pool that 12 does not describe is 3,040 bytes long
@@ -48,6 +48,7 @@ in_pool Idle e = lit≤ tt
 in_pool Register e = lit≤ tt
 in_pool (FrameRead x) e = omega (arith, ltb-false 15 x.buffer e)
 in_pool (FrameWrite x) e = lit≤ tt
+in_pool (Waits o) e = lit≤ tt
 
 -- the buffer read into lies within the pool
 pub read_fits : (d : Driver) → described d ≡ false → read_buffer d.buffers.under * 160 + 160 ≤ 3040
@@ -63,6 +64,7 @@ short Idle b h = lit≤ tt
 short Register b h = lit≤ tt
 short (FrameRead x) b h = omega arith
 short (FrameWrite x) b h = omega arith
+short (Waits o) b h = lit≤ tt
 
 -- the shorter length is at most a buffer's
 pub shorter_fits : (d : Driver) → described d ≡ false → shorter d.buffers ≤ 160
@@ -95,4 +97,4 @@ held_right d e s =
     let counts = none_right (crowded r) _ (none_right (held_besides r) _
     (none_right (length_bad r) _ (none_right (client_above r) _ clauses))) in
     let bad = none_right (buffer_missing r n) _ (none_right (frame_unfit r.under n d.flags.interrupt_handling) _ counts) in
-    not-false (in_range d.reception) (rw s at bad)
+    not-false (in_range d.reception) (rw s at (none_left (held_length_bad d.reception n) _ bad))

@@ -127,7 +127,7 @@ pub busy : {d : Driver} {xs p : List ℕ} → InReady d xs p → d.flags.config_
 busy {d} {xs} {p} h c =
     let e = flagged config_pending true d in
     let a = h.accepts in
-    let fit = moved 29 29 d e (search) (search) h.state h.state h.is_under_way refl ∙ a.passes.fit in
+    let fit = moved 29 29 d e d.buffers.command (search) (search) h.state h.state h.is_under_way refl ∙ a.passes.fit in
     let ready : InReady e xs p =
     record {
       accepts = record { passes = record { pool = a.passes.pool; fit = fit }; has_transfer = a.has_transfer; arrived = a.arrived };

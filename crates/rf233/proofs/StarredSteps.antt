@@ -14,6 +14,7 @@ use Rattle.rf233_const.specs.Command as command
 use Rattle.rf233_const.specs.Register.{register_address}
 use Rattle.rf233_const.specs.declared.register.RF233Register.{RF233Register}
 use Rattle.rf233.specs.Choice.{pick}
+use Rattle.rf233.specs.Driver.{with_command}
 use Rattle.rf233.specs.Guard.{Called, accepted, stepping, guarded}
 use Rattle.rf233.specs.Described.{described}
 use Rattle.rf233.specs.Kernel.{completing, completion_call}
@@ -28,7 +29,7 @@ use Rattle.rf233.specs.Rows.Row.{does}
 use Rattle.rf233.specs.Rows.Tree.{leaf}
 use Rattle.rf233.specs.State.{state_no}
 use Rattle.rf233.specs.Transfer.{kind_value, transfer_of, under_way}
-use Rattle.rf233.specs.Starter.{register_transfer}
+use Rattle.rf233.specs.Starter.{register_transfer, command_of}
 use Rattle.rf233.specs.Write.{value_of}
 use Rattle.rf233.specs.declared.answer.Outcome.{Outcome}
 use Rattle.rf233.specs.declared.driver.Buffers.{Buffers}
@@ -114,11 +115,12 @@ pub unmoved : (n : ℕ) (s : InternalState) → Plain n → state_no s ≡ n →
 unfolding frame_done pick
 unmoved n s c e = rw e (unframed (eqb n 34) (eqb n 63) (eqb n 65) _ _ _ s c.names)
 
--- a step that sends a register write and goes on from there: record and settings are as before, no interrupt is handled or pending
+-- a step that sends a register write and goes on from there: record and settings are as before, but for the command that is kept, and no
+-- interrupt is handled or pending
 pub record Goes (first second n : ℕ) (d : Driver) (c : Called) : Type 0 where
   pub sent : Sends kind.RegisterWrite first second n c
   pub pool : length c.pool ≡ 3040
-  pub buffers : c.outcome.driver.buffers ≡ d.buffers
+  pub buffers : c.outcome.driver.buffers ≡ with_command (command_of kind.RegisterWrite first second) d.buffers
   pub settings : c.outcome.driver.settings ≡ d.settings
   pub handling : c.outcome.driver.flags.interrupt_handling ≡ false
   pub pending : c.outcome.driver.flags.interrupt_pending ≡ false
@@ -130,7 +132,7 @@ pub next : {n m first second : ℕ} {d : Driver} {c : Called} (ys : List ℕ) �
 next {n} {m} {d = d} {c = c} ys f g fit s h e l =
     let u = ap (λ (b : Buffers). b.under) e.buffers ∙ h in
     record {
-      passes = record { pool = e.pool; fit = moved n m d c.outcome.driver f g s e.sent.state h e.buffers ∙ fit };
+      passes = record { pool = e.pool; fit = moved n m d c.outcome.driver _ f g s e.sent.state h e.buffers ∙ fit };
       state = e.sent.state;
       is_under_way = u;
       arrived = rw (u, l);
@@ -148,7 +150,7 @@ module _ {n : ℕ} {r : RF233Register} {v : Value} {s : InternalState} {d : Driv
       (record {
         sent = sends _ _ (still (accepts h refl)) refl (rw h.is_under_way) (rw h.is_under_way);
         pool = command_written_length _ _ ∙ still (accepts h refl);
-        buffers = same_record d h.passes.fit _ h.is_under_way (rw h.is_under_way);
+        buffers = same_record d h.passes.fit _ _ h.is_under_way (rw h.is_under_way);
         settings = rw h.is_under_way;
         handling = rw h.is_under_way;
         pending = rw h.is_under_way h.pending;

@@ -37,6 +37,7 @@ use Rattle.rf233.specs.StartupClaim.Run.{here, completes, fires}
 use Rattle.rf233.proofs.Refusal.{refused_alters_nothing}
 use Rattle.rf233.proofs.StartupStages.{fresh, stage, no_stop, View, seen_view, stage_view, sent_view, completion_view, firing_view}
 use Rattle.rf233.proofs.StartupStages.{Holds, holds_at, on_stages, entered, start_leads, firing_leads, next, next_among, completion_leads}
+use Rattle.rf233.proofs.StartupStages.{commanded}
 
 -- ---- calls that are refused
 
@@ -172,15 +173,15 @@ module _ {s : Seen} {d : Driver} (k : Stands s d) where
 
 -- ---- where each call leads
 
--- into stage m, by the outcome and what is then seen
-enters : {s t : Seen} {d : Driver} (k : Stands s d) (m : ℕ) (o : Outcome) → m ≤ 32 → number t ≡ m
-    → (o.driver, seen_view t) ≡ entered k.base m → Stands t o.driver
-enters k m o low q h =
+-- into stage m, over x, by the outcome and what is then seen
+enters : {t : Seen} (x : Driver) → within 129 160 x.buffers.spi_buf_whole ≡ true → (m : ℕ) (o : Outcome) → m ≤ 32 → number t ≡ m
+    → (o.driver, seen_view t) ≡ entered x m → Stands t o.driver
+enters x f m o low q h =
     record {
-      base = k.base;
-      fits = k.fits;
+      base = x;
+      fits = f;
       among = rw q low;
-      is = ap (λ (z : Driver × View). z.0) h ∙ ap (stage k.base) (sym q);
+      is = ap (λ (z : Driver × View). z.0) h ∙ ap (stage x) (sym q);
       view = ap (λ (z : Driver × View). z.1) h ∙ ap stage_view (sym q);
     }
 
@@ -219,7 +220,8 @@ module _ {s : Seen} {d : Driver} (k : Stands s d) (xs p : List ℕ) (e : accepte
       let l = completion_leads k.base a (n k) k.among away
       (λ j. lock_shown (interrupt_out s) (bit_set 0 (get_or xs 1 0)) (bit_set 2 (get_or xs 1 0)) (out_at_30 k ∙ j) b) in
       let last = eqb-false (n k) 32 (none_left (eqb (n k) 32) false (none_right (eqb (n k) 28) _ away)) in
-      enters k (next a (n k)) c (next_among a (n k) (omega (arith, last, k.among))) number_next
+      enters (commanded (completed a (stage k.base (n k))).driver k.base) k.fits (next a (n k)) c
+      (next_among a (n k) (omega (arith, last, k.among))) number_next
       (both o (seen_completion xs c s ∙ ap₂ (λ (o : Outcome) (v : View). completion_view o.reply.transfer v) o k.view) ∙ l)
 
 module _ {s : Seen} {d : Driver} (k : Stands s d) (p : List ℕ) where
@@ -234,7 +236,8 @@ module _ {s : Seen} {d : Driver} (k : Stands s d) (p : List ℕ) where
   after_firing e f l =
       let c = (fired_call d p).outcome in
       let o = fired_accepted d p e ∙ ap handle_interrupt k.is in
-      enters k (n k + 2) c (omega (arith, leb-false 29 (n k) (sym (is_fired k) ∙ f))) (rw f (omega arith))
+      enters (commanded (handle_interrupt (stage k.base (n k))).driver k.base) k.fits (n k + 2) c
+      (omega (arith, leb-false 29 (n k) (sym (is_fired k) ∙ f))) (rw f (omega arith))
       (both o (seen_firing c s ∙ ap₂ (λ (o : Outcome) (v : View). firing_view o.reply.transfer v) o k.view)
       ∙ firing_leads k.base (n k) (at_27 f l))
 
@@ -259,7 +262,7 @@ pub start_stands : {d : Driver} (f : Fresh d) (p : List ℕ) → accepted (start
 start_stands {d} f p e =
     let h = ap (λ (o : Outcome). (o.driver, seen_view (at_start o))) (start_accepted f p e) ∙ start_leads d in
     record {
-      base = d;
+      base = commanded (begin_start (flagged sleep_pending false (fresh d))).driver d;
       fits = f.fits;
       among = omega arith;
       is = ap (λ (z : Driver × View). z.0) h;

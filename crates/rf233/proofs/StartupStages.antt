@@ -25,6 +25,7 @@ use Rattle.rf233.specs.Described.{described}
 use Rattle.rf233.specs.Driver.{flagged, in_no}
 use Rattle.rf233.specs.Driver.Flag.{sleep_pending}
 use Rattle.rf233.specs.Driver.{flags_of, with_state, with_flags, with_clients, with_settings, with_buffers, with_registers, with_under}
+use Rattle.rf233.specs.Driver.{with_command}
 use Rattle.rf233.specs.Interrupt.{handle_interrupt, interrupt_state, pll_lock, rx_start, trx_end}
 use Rattle.rf233.specs.Pool.{shorter}
 use Rattle.rf233.specs.Record.{count_of}
@@ -81,10 +82,10 @@ stages =
 abbrev pub fresh : Driver → Driver
 fresh x = with_settings x.settings (with_clients x.clients (new_driver x.buffers.spi_buf_whole 0))
 
--- it, in a stage
+-- it, in a stage, with the command of x
 staged : Driver → Stage → Driver
 staged x s =
-    let b = (fresh x).buffers in
+    let b = with_command x.buffers.command (fresh x).buffers in
     with_state s.state (with_flags (flags_of s.radio_on false false false s.handling s.pending false false s.wake_pending false)
     (with_buffers (with_under (pick s.under_way Register Idle) (with_registers (not s.under_way) b)) (fresh x)))
 
@@ -189,9 +190,13 @@ module _ (x : Driver) (fits : within 129 160 x.buffers.spi_buf_whole ≡ true) w
 abbrev pub entered : Driver → ℕ → Driver × View
 entered x n = (stage x n, stage_view n)
 
+-- x with the command that driver e keeps
+abbrev pub commanded : Driver → Driver → Driver
+commanded e x = with_buffers (with_command e.buffers.command x.buffers) x
+
 -- `start` on a new driver, with nothing seen before it, leads to stage 0
 pub start_leads : (x : Driver)
-    → let o = begin_start (flagged sleep_pending false (fresh x)) in (o.driver, seen_view (at_start o)) ≡ entered x 0
+    → let o = begin_start (flagged sleep_pending false (fresh x)) in (o.driver, seen_view (at_start o)) ≡ entered (commanded o.driver x) 0
 unfolding stage staged stages sends begin_start register_transfer pick
 start_leads x = refl
 
@@ -200,9 +205,11 @@ abbrev pub firing : Driver → ℕ → Driver × View
 firing x n = let o = handle_interrupt (stage x n) in (o.driver, firing_view o.reply.transfer (stage_view n))
 
 -- during the PLL_ON write it waits, after it IRQ_STATUS is read: it leads two on
-pub firing_leads : (x : Driver) (n : ℕ) → one_of (27 ∷ 28 ∷ []) n ≡ true → firing x n ≡ entered x (n + 2)
+pub firing_leads : (x : Driver) (n : ℕ) → one_of (27 ∷ 28 ∷ []) n ≡ true
+    → firing x n ≡ entered (commanded (handle_interrupt (stage x n)).driver x) (n + 2)
 unfolding stage staged stages sends handle_interrupt register_transfer pick
-firing_leads x n h = in_list (firing x) (λ m. entered x (m + 2)) (27 ∷ 28 ∷ []) n refl h
+firing_leads x n h =
+    in_list (firing x) (λ m. entered (commanded (handle_interrupt (stage x m)).driver x) (m + 2)) (27 ∷ 28 ∷ []) n refl h
 
 -- a completion in stage n
 abbrev pub completion : Driver → Arrived → ℕ → Driver × View
@@ -224,13 +231,17 @@ plain : List ℕ
 plain = 0 ∷ 1 ∷ (range 3 25 ++ (29 ∷ 31 ∷ []))
 
 module _ (x : Driver) (a : Arrived) where
+  -- the next stage
+  abbrev onward : ℕ → Driver × View
+  onward n = entered (commanded (completed a (stage x n)).driver x) (next a n)
+
   abbrev To : ℕ → Type 0
-  To n = completion x a n ≡ entered x (next a n)
+  To n = completion x a n ≡ onward n
 
   -- what completions lead to: in the plain stages, in 2, where the status is looked at, and in 30, where what is read from IRQ_STATUS shows
   -- bit 0 and not bit 2, whatever bit 3 is
   record Tested : Type 0 where
-    in_plain : map (completion x a) plain ≡ map (λ n. entered x (next a n)) plain
+    in_plain : map (completion x a) plain ≡ map onward plain
     in_2 : To 2
     in_30 : (pll_lock a ≡ true) × (rx_start a ≡ false) → To 30
 
@@ -250,5 +261,5 @@ module _ (x : Driver) (a : Arrived) where
   completion_leads n h u b =
       by_flag (eqb n 2) (λ i. subst To (sym (eqb-true n 2 i)) tested.in_2)
       (λ i. by_flag (eqb n 30) (λ j. subst To (sym (eqb-true n 30 j)) (tested.in_30 (b j)))
-      (λ j. in_list (completion x a) (λ m. entered x (next a m)) plain n tested.in_plain (rw (u, i, j) at
+      (λ j. in_list (completion x a) onward plain n tested.in_plain (rw (u, i, j) at
       (on_stages (λ m. one_of (28 ∷ 32 ∷ []) m || (eqb m 2 || (eqb m 30 || one_of plain m))) (λ m. true) n h refl))))

@@ -30,7 +30,7 @@ use Rattle.rf233.specs.Described.{
 use Rattle.rf233.specs.declared.driver.Buffers.{Buffers}
 use Rattle.rf233.specs.declared.driver.Lent.{Lent}
 use Rattle.rf233.specs.declared.driver.Under.{Under}
-use Rattle.rf233.specs.declared.driver.Under.TheVariants.{Idle, Register, FrameRead, FrameWrite}
+use Rattle.rf233.specs.declared.driver.Under.TheVariants.{Idle, Register, FrameRead, FrameWrite, Waits}
 
 -- ---- a list that names a buffer twice
 
@@ -165,6 +165,7 @@ module _ (r : Buffers) where
   under_client Register k h = rw (ne_eqb 16 k (λ e. omega arith), ne_eqb 17 k (λ e. omega arith))
   under_client (FrameRead x) k h = rw (ne_eqb 18 k (λ e. omega arith))
   under_client (FrameWrite x) k h = rw (ne_eqb 18 k (λ e. omega arith))
+  under_client (Waits o) k h = refl
 
   -- a client's buffer is recorded as often as the places name it
   count_client : (k : ℕ) → k < 16 → count_of r k ≡ times k (clients_named r)
@@ -252,6 +253,7 @@ module _ (r : Buffers) where
         slot_below (Some x) 17 (lit< tt) low,
       )
       (simp (and-true, and-false, or-true, or-false, or_assoc))
+  owns (Waits o) low m rest = simp (and-false, or-false, or_assoc)
 
   pub uncounted : (rest : Bool) → recorded_twice r || (own_nowhere r || (client_above r || rest)) ≡ client_above r
       || (repeats (clients_named r) || (own_wrong r.under r || rest))

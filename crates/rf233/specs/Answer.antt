@@ -1,5 +1,5 @@
 -- Document 01's refusals by number ("Who can cause which refusal"), and what a refusal yields.
-use Rattle.std.specs.Prelude.{ℕ, List, [], ◌∷◌, get_or, None}
+use Rattle.std.specs.Prelude.{ℕ, cond, List, [], ◌∷◌, ◌==◌, get_or, None}
 use Rattle.rf233.specs.Action.{actions}
 use Rattle.rf233.specs.declared.answer.Answer.{Answer}
 use Rattle.rf233.specs.declared.answer.Answer.TheVariants.{
@@ -19,6 +19,7 @@ use Rattle.rf233.specs.declared.answer.Answer.TheVariants.{
   Arrived,
   Configure,
   New,
+  Nothing,
 }
 use Rattle.rf233.specs.declared.answer.Outcome.{Outcome}
 use Rattle.rf233.specs.declared.driver.Driver.{Driver}
@@ -41,8 +42,9 @@ answer_no Pool = 12
 answer_no Arrived = 13
 answer_no Configure = 14
 answer_no New = 15
+answer_no Nothing = 22
 
--- the answers in the order of their numbers
+-- the answers in the order of their numbers, but for 22
 abbrev pub answers : List Answer
 answers =
     Done ∷ Off ∷ Busy ∷ Size ∷ Long ∷ Inval ∷ Already ∷ Handle
@@ -50,7 +52,7 @@ answers =
 
 -- the answer of a number; `answer_no` gives it back (`answer_of_number` and `number_of_answer` in proofs/Answers.antt)
 abbrev pub answer_of : ℕ → Answer
-answer_of n = get_or answers n Done
+answer_of n = cond (n == 22) Nothing (get_or answers n Done)
 
 -- the refusal of this number: no transfer, no actions
 abbrev pub refused : ℕ → Driver → Outcome

@@ -22,11 +22,12 @@ use Rattle.rf233.specs.declared.write.Write.{Write}
 abbrev pub first_write : Write
 first_write = row register.SHORT_ADDR_0 AddrLow state.CONFIG_SHORT0_SET
 
--- a commit starts with its first write, and the step ends there; where a transfer is under way the commit only waits (request 2026-02)
+-- a commit starts with its first write, and the step ends there; where a transfer is under way, or waits, the commit only waits (requests
+-- 2026-02 and 2026-05)
 unfoldable pub start_commit : Driver → Outcome
 start_commit d =
     let first = row_starter first_write d in
-    by_answer first.answer (step_of first (actions [])) (quiet d (actions []))
+    by_answer first.answer (step_of first (actions [])) (quiet d (actions [])) (quiet d (actions []))
 
 -- what is written in the states 45 to 57
 abbrev pub commit_table : List Write

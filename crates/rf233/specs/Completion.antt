@@ -28,7 +28,7 @@ use Rattle.rf233.specs.declared.arrived.Arrived.{Arrived}
 use Rattle.rf233.specs.declared.driver.Buffers.{Buffers}
 use Rattle.rf233.specs.declared.driver.Driver.{Driver}
 use Rattle.rf233.specs.declared.driver.Under.{Under}
-use Rattle.rf233.specs.declared.driver.Under.TheVariants.{Idle, Register, FrameRead, FrameWrite}
+use Rattle.rf233.specs.declared.driver.Under.TheVariants.{Idle, Register, FrameRead, FrameWrite, Waits}
 use Rattle.rf233.specs.declared.state.InternalState.{InternalState}
 use Rattle.rf233.specs.declared.state.InternalState.TheVariants.{READY, TX_STATUS_PRECHECK1}
 use Rattle.rf233.specs.declared.state.InternalState.TheVariants as state
@@ -76,11 +76,16 @@ interrupt_result a d =
 
 -- buffer return: own buffers to their own places, a frame write's other buffer to the transmit place, a frame read's to the front of the
 -- line
+abbrev pub places_back : Under → Buffers → Buffers
+places_back Idle b = b
+places_back Register b = with_registers true b
+places_back (FrameRead x) b = with_line (x ∷ line b) (with_spi_buf true b)
+places_back (FrameWrite x) b = with_tx (Some x) (with_spi_buf true b)
+places_back (Waits o) b = b
+
+-- the record with the buffers of the transfer under way back in their places, and u under way or waiting then
 abbrev pub buffers_back : Under → Buffers → Buffers
-buffers_back Idle b = b
-buffers_back Register b = with_under Idle (with_registers true b)
-buffers_back (FrameRead x) b = with_under Idle (with_line (x ∷ line b) (with_spi_buf true b))
-buffers_back (FrameWrite x) b = with_under Idle (with_tx (Some x) (with_spi_buf true b))
+buffers_back u b = with_under u (places_back b.under b)
 
 -- the state once a frame transfer is over; while an interrupt is handled, the transfer was a register's
 unfoldable pub frame_done : Bool → InternalState → InternalState
@@ -94,7 +99,7 @@ abbrev pub transfer_over : Driver → Driver
 transfer_over d =
     flagged interrupt_handling false
     (with_state (frame_done (flag interrupt_handling d.flags) d.state)
-    (with_buffers (buffers_back d.buffers.under d.buffers) d))
+    (with_buffers (buffers_back Idle d.buffers) d))
 
 -- the driver with what a frame read brought of a reception (request 2026-13)
 abbrev pub length_taken : Arrived → Driver → Driver

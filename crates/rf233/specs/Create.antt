@@ -8,13 +8,14 @@ use Rattle.rf233.specs.Choice.{pick, within}
 use Rattle.rf233.specs.Driver.{flags_of}
 use Rattle.rf233.specs.Power.{setting_to_power}
 use Rattle.rf233.specs.declared.answer.Outcome.{Outcome}
+use Rattle.rf233.specs.declared.driver.Command.TheVariants as command
 use Rattle.rf233.specs.declared.driver.Driver.{Driver}
 use Rattle.rf233.specs.declared.driver.Under.TheVariants.{Idle}
 use Rattle.rf233.specs.declared.line.Line.TheVariants.{Empty}
 use Rattle.rf233.specs.declared.state.InternalState.TheVariants.{START}
 
 -- the driver of a length of spi_buf and a channel: in START, every flag clear, no listener, addresses 0, the power of setting 0, its own
--- buffers in their places, no length held
+-- buffers in their places, no register transfer yet, no length held
 abbrev pub new_driver : ℕ → ℕ → Driver
 new_driver l c =
     record {
@@ -33,6 +34,7 @@ new_driver l c =
             rx_line = Empty;
             tx_len = 0;
             under = Idle;
+            command = command.Read 0 0;
           };
       reception = record { length = 0; spoiled = false };
     }

@@ -9,9 +9,10 @@ use Rattle.rf233.specs.State.{state_no, state_frame}
 use Rattle.rf233.specs.declared.driver.Buffers.{Buffers}
 use Rattle.rf233.specs.declared.driver.Driver.{Driver}
 use Rattle.rf233.specs.declared.driver.Lent.{Lent}
+use Rattle.rf233.specs.declared.driver.Offer.TheVariants as offer
 use Rattle.rf233.specs.declared.driver.Under.{Under}
 use Rattle.rf233.specs.declared.reception.Reception.{Reception}
-use Rattle.rf233.specs.declared.driver.Under.TheVariants.{Idle, Register, FrameRead, FrameWrite}
+use Rattle.rf233.specs.declared.driver.Under.TheVariants.{Idle, Register, FrameRead, FrameWrite, Waits}
 
 -- some buffer below n is recorded twice
 abbrev pub twice_below : Buffers → ℕ → Bool
@@ -41,6 +42,7 @@ under_slot Idle = None
 under_slot Register = None
 under_slot (FrameRead x) = Some x
 under_slot (FrameWrite x) = Some x
+under_slot (Waits o) = None
 
 -- clause: a client's place, or the line, that names a buffer above 15
 abbrev pub client_above : Buffers → Bool
@@ -77,12 +79,15 @@ held_besides r = is_some r.tx_buf && is_some (tx_under_way r.under)
 abbrev pub crowded : Buffers → Bool
 crowded r = ltb line_room (receive_count r)
 
--- no frame transfer, a frame read, a frame write
+-- no frame transfer, a frame read, a frame write; one that waits counts as under way
 abbrev pub frame_no : Under → ℕ
 frame_no Idle = 0
 frame_no Register = 0
 frame_no (FrameRead x) = 1
 frame_no (FrameWrite x) = 2
+frame_no (Waits offer.Register) = 0
+frame_no (Waits offer.FrameRead) = 1
+frame_no (Waits offer.FrameWrite) = 2
 
 -- clause: a frame transfer that is not of the kind the state names, or with interrupt handling set; or such a state without its transfer
 abbrev pub frame_unfit : Under → ℕ → Bool → Bool
@@ -97,13 +102,24 @@ buffer_missing r n =
 abbrev pub held_length_bad : Reception → ℕ → Bool
 held_length_bad e n = within 65 68 n && not (in_range e)
 
+-- clause (request 2026-05): a transfer that waits without its buffers in their places, 16 and 17 or 18 and the client's
+abbrev pub unplaced : Under → Buffers → Bool
+unplaced Idle r = false
+unplaced Register r = false
+unplaced (FrameRead x) r = false
+unplaced (FrameWrite x) r = false
+unplaced (Waits offer.Register) r = not r.spi_tx || not r.spi_rx
+unplaced (Waits offer.FrameRead) r = not r.spi_buf || not (some (line r))
+unplaced (Waits offer.FrameWrite) r = not r.spi_buf || not (is_some r.tx_buf)
+
 -- a driver value that refusal 12 describes
 unfoldable pub described : Driver → Bool
 described d =
     let r = d.buffers in
     let n = state_no d.state in
     recorded_twice r || (own_nowhere r || (client_above r || (length_bad r || (held_besides r || (crowded r
-    || (frame_unfit r.under n d.flags.interrupt_handling || (buffer_missing r n || held_length_bad d.reception n)))))))
+    || (frame_unfit r.under n d.flags.interrupt_handling || (buffer_missing r n
+    || (held_length_bad d.reception n || unplaced r.under r))))))))
 
 -- The parts in which `is_described` asks this, place by place: `described` is made of them (`regrouped` in proofs/Regrouped.antt).
 
@@ -136,6 +152,7 @@ own_wrong Idle r = not r.spi_tx || (not r.spi_rx || not r.spi_buf)
 own_wrong Register r = r.spi_tx || (r.spi_rx || not r.spi_buf)
 own_wrong (FrameRead x) r = r.spi_buf || (not r.spi_tx || not r.spi_rx)
 own_wrong (FrameWrite x) r = r.spi_buf || (not r.spi_tx || not r.spi_rx)
+own_wrong (Waits o) r = not r.spi_tx || (not r.spi_rx || not r.spi_buf)
 
 -- of a frame transfer, the own buffers and the state apart: interrupt handling set; no place for its client's buffer to come back to; that
 -- buffer not a client's, with a length out of bounds, or held in another place too
@@ -147,13 +164,14 @@ frame_bad (FrameRead x) tx l n handling =
     handling || (leb line_room (length l) || (receive_bad x || held))
 frame_bad (FrameWrite x) tx l n handling =
     handling || (is_some tx || ((is_above x || tx_length_bad (Some x) n) || meets (names l) (x.buffer ∷ [])))
+frame_bad (Waits o) tx l n handling = ltb 0 (frame_no (Waits o)) && handling
 
--- all of it: the two lengths of spi_buf, each place, the transfer under way, the state
+-- all of it: the two lengths of spi_buf, each place, the transfer under way or waiting, the state
 abbrev pub by_place : Driver → Bool
 by_place d =
     let r = d.buffers in
     let n = state_no d.state in
     not (within 129 160 r.spi_buf_whole) || (not (within 2 r.spi_buf_whole r.spi_buf_len)
     || ((slot_above r.tx_buf || tx_length_bad r.tx_buf r.tx_len) || (line_bad (line r) r.tx_buf
-    || ((own_wrong r.under r || frame_bad r.under r.tx_buf (line r) r.tx_len d.flags.interrupt_handling)
+    || (((own_wrong r.under r || frame_bad r.under r.tx_buf (line r) r.tx_len d.flags.interrupt_handling) || unplaced r.under r)
     || (not (eqb (frame_no r.under) (state_frame n)) || (buffer_missing r n || held_length_bad d.reception n))))))

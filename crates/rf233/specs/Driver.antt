@@ -4,6 +4,7 @@ use Rattle.std.specs.Prelude.{ℕ, Bool, cond, List, [], ◌∷◌, eqb, ℤ, Op
 use Rattle.rf233_const.specs.Bits.{bit_set}
 use Rattle.rf233_const.specs.Flags.{rx_crc_valid_bit}
 use Rattle.rf233.specs.State.{state_no}
+use Rattle.rf233.specs.declared.driver.Command.{Command}
 use Rattle.rf233.specs.declared.state.InternalState.{InternalState}
 use Rattle.rf233.specs.declared.driver.Flags.{Flags}
 use Rattle.rf233.specs.declared.driver.Client.{Client}
@@ -140,9 +141,13 @@ with_line l b = record b { rx_line = line_of l }
 abbrev pub with_tx_len : ℕ → Buffers → Buffers
 with_tx_len n b = record b { tx_len = n }
 
--- the record with another transfer under way
+-- the record with another transfer under way or waiting
 abbrev pub with_under : Under → Buffers → Buffers
 with_under u b = record b { under = u }
+
+-- the record with another command kept
+abbrev pub with_command : Command → Buffers → Buffers
+with_command c b = record b { command = c }
 
 -- the driver in another state
 abbrev pub with_state : InternalState → Driver → Driver

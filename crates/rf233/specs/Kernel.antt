@@ -1,12 +1,16 @@
--- What the kernel brings: a completion with its arrived bytes, and a firing of the interrupt pin.
-use Rattle.std.specs.Prelude.{ℕ, Bool, not, ◌||◌, List, ltb, length}
+-- What the kernel brings: a completion with its arrived bytes, a firing of the interrupt pin, and of a transfer that the SPI layer declined
+-- the decline and the resume.
+use Rattle.std.specs.Prelude.{ℕ, Bool, not, ◌||◌, List, [], ltb, length}
+use Rattle.rf233.specs.Action.{actions}
 use Rattle.rf233.specs.Arrived.{arrived_of}
 use Rattle.rf233.specs.Choice.{pick}
 use Rattle.rf233.specs.Completion.{completed}
+use Rattle.rf233.specs.Decline.{declines, length_again, resumed}
 use Rattle.rf233.specs.Guard.{Called, refusing, stepping, guarded}
 use Rattle.rf233.specs.Interrupt.{handle_interrupt}
 use Rattle.rf233.specs.Pool.{copied, read_buffer, shorter}
-use Rattle.rf233.specs.Transfer.{to_complete}
+use Rattle.rf233.specs.Step.{quiet}
+use Rattle.rf233.specs.Transfer.{to_complete, to_resume}
 use Rattle.rf233.specs.declared.driver.Buffers.{Buffers}
 use Rattle.rf233.specs.declared.driver.Driver.{Driver}
 
@@ -28,3 +32,13 @@ completion_call d xs p =
 -- firing: 12
 unfoldable pub fired_call : Driver → List ℕ → Called
 fired_call d p = guarded d p (stepping (handle_interrupt d) p)
+
+-- decline: 12; 11 with no transfer under way. No byte of the pool is altered
+unfoldable pub declined_call : Driver → List ℕ → Called
+declined_call d p =
+    guarded d p (pick (not (to_complete d.buffers)) (refusing 11 d p) (record { outcome = quiet (declines d) (actions []); pool = p }))
+
+-- resume: 12; 22 with no transfer waiting. The command bytes are written anew, of a frame write both
+unfoldable pub resume_call : Driver → List ℕ → Called
+resume_call d p =
+    guarded d p (pick (not (to_resume d.buffers)) (refusing 22 d p) (stepping (resumed d) (length_again d.buffers p)))

@@ -24,6 +24,7 @@ pub mod Receive
 pub mod Case
 pub mod Interrupt
 pub mod Completion
+pub mod Decline
 pub mod Guard
 pub mod Listeners
 pub mod Config
@@ -33,6 +34,7 @@ pub mod Kernel
 pub mod Place
 pub mod Calls
 pub mod Refusal
+pub mod DeclineClaim
 pub mod OneBuffer
 pub mod StartupClaim
 pub mod CommitClaim

@@ -10,7 +10,7 @@ use Rattle.rf233.specs.declared.driver.Buffers.{Buffers}
 use Rattle.rf233.specs.declared.driver.Driver.{Driver}
 use Rattle.rf233.specs.declared.driver.Lent.{Lent}
 use Rattle.rf233.specs.declared.driver.Under.{Under}
-use Rattle.rf233.specs.declared.driver.Under.TheVariants.{Idle, Register, FrameRead, FrameWrite}
+use Rattle.rf233.specs.declared.driver.Under.TheVariants.{Idle, Register, FrameRead, FrameWrite, Waits}
 
 -- the buffer that a frame read has
 abbrev pub reading : Under → List Lent
@@ -18,6 +18,7 @@ reading Idle = []
 reading Register = []
 reading (FrameRead x) = x ∷ []
 reading (FrameWrite x) = []
+reading (Waits o) = []
 
 -- the receive buffers that the driver has, in turn: the one that a frame read took from the front, then the line
 abbrev pub in_turn : Buffers → List Lent

@@ -5,7 +5,7 @@ use Rattle.rf233.specs.Choice.{pick}
 use Rattle.rf233.specs.Transfer.{kind_value}
 use Rattle.rf233.specs.declared.driver.Buffers.{Buffers}
 use Rattle.rf233.specs.declared.driver.Under.{Under}
-use Rattle.rf233.specs.declared.driver.Under.TheVariants.{Idle, Register, FrameRead, FrameWrite}
+use Rattle.rf233.specs.declared.driver.Under.TheVariants.{Idle, Register, FrameRead, FrameWrite, Waits}
 use Rattle.rf233.specs.declared.transfer.Transfer.{Transfer}
 
 -- the pool's length
@@ -33,6 +33,7 @@ read_buffer Idle = 17
 read_buffer Register = 17
 read_buffer (FrameRead x) = x.buffer
 read_buffer (FrameWrite x) = 18
+read_buffer (Waits o) = 17
 
 -- the write length of the transfer under way, as document 01's table has it
 abbrev pub write_length : Under → Buffers → ℕ
@@ -40,6 +41,7 @@ write_length Idle b = 0
 write_length Register b = 2
 write_length (FrameRead x) b = b.spi_buf_len
 write_length (FrameWrite x) b = b.tx_len + 2
+write_length (Waits o) b = 0
 
 -- its read length
 abbrev pub read_length : Under → Buffers → ℕ
@@ -47,6 +49,7 @@ read_length Idle b = 0
 read_length Register b = 2
 read_length (FrameRead x) b = x.length
 read_length (FrameWrite x) b = b.spi_buf_len
+read_length (Waits o) b = 0
 
 -- the shorter of the two
 abbrev pub shorter : Buffers → ℕ

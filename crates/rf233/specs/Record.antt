@@ -4,7 +4,7 @@ use Rattle.rf233.specs.Line.{line, names}
 use Rattle.rf233.specs.declared.driver.Buffers.{Buffers}
 use Rattle.rf233.specs.declared.driver.Lent.{Lent}
 use Rattle.rf233.specs.declared.driver.Under.{Under}
-use Rattle.rf233.specs.declared.driver.Under.TheVariants.{Idle, Register, FrameRead, FrameWrite}
+use Rattle.rf233.specs.declared.driver.Under.TheVariants.{Idle, Register, FrameRead, FrameWrite, Waits}
 
 -- buffer b, lent at length l
 abbrev pub lent : ℕ → ℕ → Lent
@@ -21,12 +21,13 @@ abbrev pub slot_has : Option Lent → ℕ → Bool
 slot_has None b = false
 slot_has (Some x) b = eqb x.buffer b
 
--- the transfer under way has buffer b: of a register transfer 16 and 17, of a frame transfer 18 and the client's
+-- the transfer under way has buffer b: of a register transfer 16 and 17, of a frame transfer 18 and the client's; one that waits has none
 abbrev pub under_has : Under → ℕ → Bool
 under_has Idle b = false
 under_has Register b = eqb 16 b || eqb 17 b
 under_has (FrameRead x) b = eqb 18 b || eqb x.buffer b
 under_has (FrameWrite x) b = eqb 18 b || eqb x.buffer b
+under_has (Waits o) b = false
 
 -- b is an own buffer, in its own place
 abbrev pub own_has : Buffers → ℕ → Bool
@@ -56,6 +57,7 @@ tx_under_way Idle = None
 tx_under_way Register = None
 tx_under_way (FrameRead x) = None
 tx_under_way (FrameWrite x) = Some x
+tx_under_way (Waits o) = None
 
 -- the receive buffer under way, as a place
 abbrev pub rx_under_way : Under → Option Lent
@@ -63,6 +65,7 @@ rx_under_way Idle = None
 rx_under_way Register = None
 rx_under_way (FrameRead x) = Some x
 rx_under_way (FrameWrite x) = None
+rx_under_way (Waits o) = None
 
 -- how many receive buffers the driver has: those in the line and the one under way
 abbrev pub receive_count : Buffers → ℕ

@@ -18,6 +18,8 @@ use Rattle.rf233.specs.Calls.Call.{
   commit,
   fire,
   query,
+  declined,
+  resume,
   complete,
   transmit,
   receive_buffer,
@@ -37,6 +39,8 @@ withdraws stop n = false
 withdraws commit n = false
 withdraws fire n = false
 withdraws query n = false
+withdraws declined n = false
+withdraws resume n = false
 withdraws (complete xs) n = false
 withdraws (transmit b l k) n = false
 withdraws (receive_buffer b l) n = false

@@ -1,21 +1,24 @@
 -- The starters of document 01's four transfers: what each sends, its lengths, the buffers that it takes, and its answer: that it began, or
--- found a transfer under way. One that lacks a buffer, which 12 describes, answers as if one were under way.
+-- found a transfer under way, or one waiting (request 2026-05). One that lacks a buffer, which 12 describes, answers as if one were under
+-- way.
 use Rattle.std.specs.Prelude.{ℕ, ◌+◌, false, ◌&&◌, Option, None, Some}
 use Rattle.rf233_const.specs.Command as command
 use Rattle.rf233_const.specs.Register.{register_address}
 use Rattle.rf233_const.specs.declared.register.RF233Register.{RF233Register}
 use Rattle.rf233.specs.Choice.{pick}
-use Rattle.rf233.specs.Driver.{with_buffers, with_registers, with_spi_buf, with_spi_buf_len, with_tx, with_line, with_under}
+use Rattle.rf233.specs.Driver.{with_buffers, with_registers, with_spi_buf, with_spi_buf_len, with_tx, with_line, with_under, with_command}
 use Rattle.rf233.specs.Line.{line, front, behind}
 use Rattle.rf233.specs.Transfer.{transfer_of, free_to_start}
 use Rattle.rf233.specs.declared.driver.Buffers.{Buffers}
+use Rattle.rf233.specs.declared.driver.Command.{Command}
+use Rattle.rf233.specs.declared.driver.Command.TheVariants as kept
 use Rattle.rf233.specs.declared.driver.Driver.{Driver}
 use Rattle.rf233.specs.declared.driver.Lent.{Lent}
 use Rattle.rf233.specs.declared.driver.Under.{Under}
-use Rattle.rf233.specs.declared.driver.Under.TheVariants.{Idle, Register, FrameRead, FrameWrite}
+use Rattle.rf233.specs.declared.driver.Under.TheVariants.{Idle, Register, FrameRead, FrameWrite, Waits}
 use Rattle.rf233.specs.declared.starter.Started.{Started}
 use Rattle.rf233.specs.declared.starter.StarterAnswer.{StarterAnswer}
-use Rattle.rf233.specs.declared.starter.StarterAnswer.TheVariants.{Began, UnderWay}
+use Rattle.rf233.specs.declared.starter.StarterAnswer.TheVariants.{Began, UnderWay, Waiting}
 use Rattle.rf233.specs.declared.transfer.Transfer.{Transfer}
 use Rattle.rf233.specs.declared.transfer.TransferKind.{TransferKind}
 use Rattle.rf233.specs.declared.transfer.TransferKind.TheVariants as kind
@@ -26,26 +29,56 @@ buffers_away Idle b = b
 buffers_away Register b = with_under Register (with_registers false b)
 buffers_away (FrameRead x) b = with_under (FrameRead x) (with_line (behind (line b)) (with_spi_buf false b))
 buffers_away (FrameWrite x) b = with_under (FrameWrite x) (with_tx None (with_spi_buf false b))
+buffers_away (Waits o) b = b
 
--- a transfer is under way, and nothing begins
+-- what a starter found that does not begin
+abbrev pub found : Under → StarterAnswer
+found Idle = UnderWay
+found Register = UnderWay
+found (FrameRead x) = UnderWay
+found (FrameWrite x) = UnderWay
+found (Waits o) = Waiting
+
+-- a transfer is under way or waits, and nothing begins
 abbrev pub refrains : Driver → Started
-refrains d = record { answer = UnderWay; driver = d }
+refrains d = record { answer = found d.buffers.under; driver = d }
 
 -- a transfer begins, and the record is then b
 abbrev pub begins : Transfer → Buffers → Driver → Started
 begins t b d = record { answer = Began t; driver = with_buffers b d }
 
--- the transfer that a starter's answer gives: where it began the one that it began, else none
+-- the transfer that goes out by a starter's answer: the one that began; where one was found under way, or waiting, none
 abbrev pub begun : StarterAnswer → Option Transfer
 begun (Began t) = Some t
 begun UnderWay = None
+begun Waiting = None
 
--- a register transfer: two bytes from buffer 16, two into buffer 17
+-- what the driver keeps of a register transfer: whether it reads or writes, and its two bytes
+abbrev pub command_of : TransferKind → ℕ → ℕ → Command
+command_of kind.RegisterRead first second = kept.Read first second
+command_of kind.RegisterWrite first second = kept.Write first second
+command_of kind.FrameRead first second = kept.Read first second
+command_of kind.FrameWrite first second = kept.Read first second
+
+-- the kind of the register transfer that the driver keeps, and its two bytes
+abbrev pub command_kind : Command → TransferKind
+command_kind (kept.Read first second) = kind.RegisterRead
+command_kind (kept.Write first second) = kind.RegisterWrite
+
+abbrev pub command_first : Command → ℕ
+command_first (kept.Read first second) = first
+command_first (kept.Write first second) = first
+
+abbrev pub command_second : Command → ℕ
+command_second (kept.Read first second) = second
+command_second (kept.Write first second) = second
+
+-- a register transfer: two bytes from buffer 16, two into buffer 17; the driver keeps the two
 unfoldable pub register_transfer : TransferKind → ℕ → ℕ → Driver → Started
 register_transfer k first second d =
     let b = d.buffers in
     pick ((free_to_start b && b.spi_tx) && b.spi_rx)
-    (begins (transfer_of k 16 17 first second 2 2) (buffers_away Register b) d)
+    (begins (transfer_of k 16 17 first second 2 2) (with_command (command_of k first second) (buffers_away Register b)) d)
     (refrains d)
 
 -- register read: 0x80 + register, 0

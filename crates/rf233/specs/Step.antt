@@ -1,5 +1,5 @@
 -- A step that is done, one that starts nothing, the steps of a register transfer (the Rust's `state_transition_read`,
--- `state_transition_write`), the step of a starter that began or another where it did not, and a step with its actions.
+-- `state_transition_write`), the step that follows from a starter's answer, and a step with its actions.
 use Rattle.std.specs.Prelude.{ℕ, [], Option, None}
 use Rattle.rf233_const.specs.declared.register.RF233Register.{RF233Register}
 use Rattle.rf233.specs.Action.{actions}
@@ -11,7 +11,7 @@ use Rattle.rf233.specs.declared.answer.Outcome.{Outcome}
 use Rattle.rf233.specs.declared.driver.Driver.{Driver}
 use Rattle.rf233.specs.declared.starter.Started.{Started}
 use Rattle.rf233.specs.declared.starter.StarterAnswer.{StarterAnswer}
-use Rattle.rf233.specs.declared.starter.StarterAnswer.TheVariants.{Began, UnderWay}
+use Rattle.rf233.specs.declared.starter.StarterAnswer.TheVariants.{Began, UnderWay, Waiting}
 use Rattle.rf233.specs.declared.state.InternalState.{InternalState}
 use Rattle.rf233.specs.declared.transfer.Transfer.{Transfer}
 
@@ -27,10 +27,11 @@ step_of s l = done_step s.driver (begun s.answer) l
 abbrev pub quiet : Driver → Actions → Outcome
 quiet d l = done_step d None l
 
--- by a starter's answer: the one where it began, the other where it found a transfer under way
-unfoldable pub by_answer : StarterAnswer → Outcome → Outcome → Outcome
-by_answer (Began t) x y = x
-by_answer UnderWay x y = y
+-- by a starter's answer: the first where it began, the second where it found a transfer under way, the third where one waits
+unfoldable pub by_answer : StarterAnswer → Outcome → Outcome → Outcome → Outcome
+by_answer (Began t) x y z = x
+by_answer UnderWay x y z = y
+by_answer Waiting x y z = z
 
 -- a register read, and the next state
 abbrev pub transition_read : RF233Register → InternalState → Driver → Outcome

@@ -1,8 +1,9 @@
--- A transfer as it goes out, and the two tests of the record: whether one may begin, and whether there is one to complete.
-use Rattle.std.specs.Prelude.{ℕ, Bool, true, false, not, Option, None, Some}
+-- A transfer as it goes out, and the three tests of the record: whether one may begin, whether there is one to complete, and whether one
+-- waits to be offered again.
+use Rattle.std.specs.Prelude.{ℕ, Bool, true, false, not, ◌||◌, Option, None, Some}
 use Rattle.rf233.specs.declared.driver.Buffers.{Buffers}
 use Rattle.rf233.specs.declared.driver.Under.{Under}
-use Rattle.rf233.specs.declared.driver.Under.TheVariants.{Idle, Register, FrameRead, FrameWrite}
+use Rattle.rf233.specs.declared.driver.Under.TheVariants.{Idle, Register, FrameRead, FrameWrite, Waits}
 use Rattle.rf233.specs.declared.transfer.Transfer.{Transfer}
 use Rattle.rf233.specs.declared.transfer.TransferKind.{TransferKind}
 use Rattle.rf233.specs.declared.transfer.TransferKind.TheVariants as kind
@@ -30,11 +31,24 @@ under_way Idle = false
 under_way Register = true
 under_way (FrameRead x) = true
 under_way (FrameWrite x) = true
+under_way (Waits o) = false
 
--- a starter may begin a transfer
+-- a transfer waits, which the SPI layer declined
+abbrev pub waits : Under → Bool
+waits Idle = false
+waits Register = false
+waits (FrameRead x) = false
+waits (FrameWrite x) = false
+waits (Waits o) = true
+
+-- a starter may begin a transfer: a waiting one counts as under way (request 2026-05)
 abbrev pub free_to_start : Buffers → Bool
-free_to_start b = not (under_way b.under)
+free_to_start b = not (under_way b.under || waits b.under)
 
--- there is a transfer for a completion to end
+-- there is a transfer for a completion to end, or for the SPI layer to decline
 abbrev pub to_complete : Buffers → Bool
 to_complete b = under_way b.under
+
+-- there is a transfer for a resume to offer again
+abbrev pub to_resume : Buffers → Bool
+to_resume b = waits b.under

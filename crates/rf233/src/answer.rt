@@ -28,6 +28,7 @@ pub enum Answer {
     Arrived = 13,
     Configure = 14,
     New = 15,
+    Nothing = 22,
 }
 
 // The number of each.

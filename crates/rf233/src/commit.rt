@@ -98,7 +98,7 @@ impl Driver {
         );
         match first.answer {
             StarterAnswer::Began(_) => first.step(),
-            StarterAnswer::UnderWay => Outcome::done(self),
+            StarterAnswer::UnderWay | StarterAnswer::Waiting => Outcome::done(self),
         }
     }
 

@@ -27,12 +27,12 @@ use rf233_const::interrupt::{InteruptFlags, interrupt_included};
 use rf233_const::register::RF233Register;
 
 impl Buffers {
-    // The record of the buffers once the transfer is over.
-    fn back(mut self) -> Buffers
-        ensures { result ≡ buffers_back self.under self }
+    // The record with the buffers of the transfer under way back in their places, and what is under way or waits then.
+    pub(crate) fn back(mut self, then: Under) -> Buffers
+        ensures { result ≡ buffers_back then self }
     {
         match self.under {
-            Under::Idle => return self,
+            Under::Idle | Under::Waits(_) => (),
             Under::Register => {
                 self.spi_tx = true;
                 self.spi_rx = true;
@@ -46,7 +46,7 @@ impl Buffers {
                 self.tx_buf = Some(x);
             }
         }
-        self.under = Under::Idle;
+        self.under = then;
         self
     }
 }
@@ -86,7 +86,7 @@ impl Driver {
         ensures { result ≡ transfer_over self }
     {
         self.state = self.state.frame_done(self.flags.interrupt_handling);
-        self.buffers = self.buffers.back();
+        self.buffers = self.buffers.back(Under::Idle);
         self.flags.interrupt_handling = false;
         self
     }

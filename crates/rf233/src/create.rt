@@ -4,7 +4,7 @@ ghost use Rattle.rf233.specs.Create.{new_call, new_driver};
 
 use crate::answer::{Answer, Outcome};
 use crate::config::channel_fits;
-use crate::driver::{Buffers, Clients, Driver, Flags, Settings, Under};
+use crate::driver::{Buffers, Clients, Command, Driver, Flags, Settings, Under};
 use crate::line::Line;
 use crate::power::setting_to_power;
 use crate::reception::Reception;
@@ -36,6 +36,7 @@ impl Driver {
                 rx_line: Line::Empty,
                 tx_len: 0,
                 under: Under::Idle,
+                command: Command::Read(0, 0),
             },
             reception: Reception {
                 length: 0,

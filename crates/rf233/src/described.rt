@@ -12,11 +12,13 @@ ghost use Rattle.rf233.specs.Described.{
   receive_bad,
   slot_above,
   tx_length_bad,
+  unplaced,
 };
 ghost use Rattle.rf233.specs.Line.{line, listed};
 ghost use Rattle.rf233.specs.State.{state_frame, state_no};
+ghost use Rattle.rf233.specs.declared.driver.Under.TheVariants.{Waits};
 
-use crate::driver::{Buffers, Driver, Lent, Under};
+use crate::driver::{Buffers, Driver, Lent, Offer, Under};
 use crate::line::{LINE_ROOM, Line};
 use crate::record::slot_has;
 use crate::state::InternalState;
@@ -50,6 +52,71 @@ impl Line {
     }
 }
 
+impl Offer {
+    // A frame read is to be offered again. It and the next two are apart, as few steps meet a waiting transfer: with one pattern for both a
+    // completion takes 10 instructions more (measured).
+    #[cold]
+    #[inline(never)]
+    fn is_frame_read(self) -> bool
+        ensures { result ≡ eqb (frame_no (Waits self)) 1 }
+    {
+        matches!(self, Offer::FrameRead)
+    }
+
+    // A frame write is.
+    #[cold]
+    #[inline(never)]
+    fn is_frame_write(self) -> bool
+        ensures { result ≡ eqb (frame_no (Waits self)) 2 }
+    {
+        matches!(self, Offer::FrameWrite)
+    }
+
+    // Either is.
+    #[cold]
+    #[inline(never)]
+    fn is_frame(self) -> bool
+        ensures { result ≡ not (eqb (frame_no (Waits self)) 0) }
+    {
+        !matches!(self, Offer::Register)
+    }
+}
+
+impl Under {
+    // A frame read is under way or waits.
+    fn is_frame_read(self) -> bool
+        ensures { result ≡ eqb (frame_no self) 1 }
+    {
+        match self {
+            Under::FrameRead(_) => true,
+            Under::Waits(offer) => offer.is_frame_read(),
+            _ => false,
+        }
+    }
+
+    // A frame write is.
+    fn is_frame_write(self) -> bool
+        ensures { result ≡ eqb (frame_no self) 2 }
+    {
+        match self {
+            Under::FrameWrite(_) => true,
+            Under::Waits(offer) => offer.is_frame_write(),
+            _ => false,
+        }
+    }
+
+    // Either is.
+    fn is_frame(self) -> bool
+        ensures { result ≡ not (eqb (frame_no self) 0) }
+    {
+        match self {
+            Under::FrameRead(_) | Under::FrameWrite(_) => true,
+            Under::Waits(offer) => offer.is_frame(),
+            _ => false,
+        }
+    }
+}
+
 impl Buffers {
     // What is wrong with the line: a buffer in it that is no client's, or with a length out of bounds, or twice in it, or to transmit too.
     fn line_bad(self) -> bool
@@ -62,13 +129,17 @@ impl Buffers {
         }
     }
 
-    // What is wrong with the transfer under way: an own buffer is in its own place exactly while the transfer does not have it, and a
-    // frame transfer's client's buffer is asked like a held one.
+    // What is wrong with the transfer under way or waiting: an own buffer is in its own place exactly while the transfer does not have it;
+    // a frame transfer's client's buffer is asked like a held one, and in its place while the transfer waits.
     fn going_bad(self, handling: bool) -> bool
-        ensures { result ≡ (own_wrong self.under self || frame_bad self.under self.tx_buf (line self) self.tx_len handling) }
+        ensures { result
+            ≡ ((own_wrong self.under self || frame_bad self.under self.tx_buf (line self) self.tx_len handling)
+            || unplaced self.under self) }
     {
         match self.under {
-            Under::Idle => !self.spi_tx || !self.spi_rx || !self.spi_buf,
+            Under::Idle | Under::Waits(Offer::Register) => !self.spi_tx
+                || !self.spi_rx
+                || !self.spi_buf,
             Under::Register => self.spi_tx || self.spi_rx || !self.spi_buf,
             Under::FrameRead(x) => {
                 (self.spi_buf || !self.spi_tx || !self.spi_rx)
@@ -84,6 +155,14 @@ impl Buffers {
                         || self.tx_buf.is_some()
                         || tx_bad(Some(x), self.tx_len)
                         || self.rx_line.has(x.buffer))
+            }
+            Under::Waits(Offer::FrameRead) => {
+                (!self.spi_tx || !self.spi_rx || !self.spi_buf)
+                    || (handling || self.rx_line.is_empty())
+            }
+            Under::Waits(Offer::FrameWrite) => {
+                (!self.spi_tx || !self.spi_rx || !self.spi_buf)
+                    || (handling || self.tx_buf.is_none())
             }
         }
     }
@@ -121,23 +200,27 @@ impl Driver {
             || (buffer_missing self.buffers (state_no self.state) || held_length_bad self.reception (state_no self.state))) }
     {
         let b = self.buffers;
-        let framed = matches!(b.under, Under::FrameRead(_) | Under::FrameWrite(_));
         match self.state {
-            InternalState::TX_STATUS_PRECHECK1 | InternalState::TX_RETURN_TO_RX => framed
+            InternalState::TX_STATUS_PRECHECK1 | InternalState::TX_RETURN_TO_RX => b
+                .under
+                .is_frame()
                 || b.tx_buf.is_none(),
-            InternalState::TX_WRITING_FRAME => !matches!(b.under, Under::FrameWrite(_)),
-            InternalState::RX_START_READING | InternalState::RX_READING_FRAME_LEN_DONE => framed
+            InternalState::TX_WRITING_FRAME => !b.under.is_frame_write(),
+            InternalState::RX_START_READING | InternalState::RX_READING_FRAME_LEN_DONE => b
+                .under
+                .is_frame()
                 || b.rx_line.is_empty(),
-            InternalState::RX_READING_FRAME_LEN => !matches!(b.under, Under::FrameRead(_)),
-            InternalState::RX_READING_FRAME => {
-                !matches!(b.under, Under::FrameRead(_)) || !self.reception.is_in_range()
-            }
-            InternalState::RX_READING_FRAME_DONE | InternalState::RX_READING_FRAME_FCS_DONE =>
-                framed || !self.reception.is_in_range(),
-            InternalState::RX_ENABLING_RECEPTION => framed
+            InternalState::RX_READING_FRAME_LEN => !b.under.is_frame_read(),
+            InternalState::RX_READING_FRAME => !b.under.is_frame_read()
+                || !self.reception.is_in_range(),
+            InternalState::RX_READING_FRAME_DONE | InternalState::RX_READING_FRAME_FCS_DONE => b
+                .under
+                .is_frame()
+                || !self.reception.is_in_range(),
+            InternalState::RX_ENABLING_RECEPTION => b.under.is_frame()
                 || b.rx_line.is_empty()
                 || !self.reception.is_in_range(),
-            _ => framed,
+            _ => b.under.is_frame(),
         }
     }
 }

@@ -3,7 +3,7 @@ use crate::line::Line;
 use crate::reception::Reception;
 use crate::state::InternalState;
 
-// The Rust's cells of a bool, under its names. Its `spi_busy` is here the record of the transfer under way.
+// The Rust's cells of a bool, under its names. Its `spi_busy` is here the record of the transfer under way or waiting.
 #[derive(Clone, Copy, Default)]
 pub struct Flags {
     pub radio_on: bool,
@@ -53,18 +53,38 @@ pub struct Lent {
     pub length: u8,
 }
 
-// The transfer under way. A register transfer has buffers 16 and 17, a frame transfer 18 and a client's. As an Option of the other three
-// it would be no plainer: every `match` would name `Some` beside the kind.
+// A transfer that the SPI layer declined, to be offered again. It names no client's buffer: a frame read's is at the front of the line, a
+// frame write's in the transmit place.
+#[derive(Clone, Copy)]
+pub enum Offer {
+    Register,
+    FrameRead,
+    FrameWrite,
+}
+
+// The transfer under way, or the one that waits. Under way, a register transfer has buffers 16 and 17, a frame transfer 18 and a client's;
+// waiting, its buffers are in their places. As an Option of the other four it would be no plainer: every `match` would name `Some` beside
+// the kind.
 #[derive(Clone, Copy)]
 pub enum Under {
     Idle,
     Register,
     FrameRead(Lent),
     FrameWrite(Lent),
+    Waits(Offer),
+}
+
+// The two command bytes of the last register transfer, a read or a write, kept from its first offer on: anyone may alter the pool before it
+// is offered again.
+#[derive(Clone, Copy)]
+pub enum Command {
+    Read(u8, u8),
+    Write(u8, u8),
 }
 
 // The driver's record of the buffers: whether each own buffer is in its place, the buffer to transmit, the line of receive buffers, the
-// transfer under way; the length of spi_buf and the part of it that the last frame read left; the frame length given to `transmit`, plus 2.
+// transfer under way or waiting, the command of the last register transfer; the length of spi_buf and the part of it that the last frame
+// read left; the frame length given to `transmit`, plus 2.
 #[derive(Clone, Copy)]
 pub struct Buffers {
     pub spi_tx: bool,
@@ -76,6 +96,7 @@ pub struct Buffers {
     pub rx_line: Line,
     pub tx_len: u8,
     pub under: Under,
+    pub command: Command,
 }
 
 // The driver: its state, its flags, its listeners, its settings, its record of the buffers, what it keeps of a reception.

@@ -12,7 +12,8 @@ use rf233_const::trx_state::RF233TrxCmd;
 
 impl Driver {
     // The firing itself: IRQ_STATUS is read, unless none may begin now. In RX reception is turned off first, so that the frame is not
-    // overwritten before it is read out.
+    // overwritten before it is read out. Inlined: called, a step of a run with many firings takes 11 instructions more (measured).
+    #[inline(always)]
     #[tactic(auto, unfolding(crate::specs::Interrupt::handle_interrupt, crate::specs::Choice::pick))]
     pub(crate) fn handle_interrupt(mut self) -> Outcome
         ensures { result ≡ handle_interrupt self }

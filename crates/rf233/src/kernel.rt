@@ -1,6 +1,7 @@
-// What the kernel brings: a completion with its arrived bytes, and a firing of the interrupt pin.
+// What the kernel brings: a completion with its arrived bytes, a firing of the interrupt pin, and of a transfer that the SPI layer declined
+// the decline and the resume.
 ghost use Rattle.std.specs.Prelude.{◌≡◌};
-ghost use Rattle.rf233.specs.Kernel.{completion_call, fired_call};
+ghost use Rattle.rf233.specs.Kernel.{completion_call, declined_call, fired_call, resume_call};
 
 use crate::answer::{Answer, Outcome, Reply};
 use crate::arrived::Arrived;
@@ -32,6 +33,37 @@ impl Driver {
             result: arrived[1],
         };
         self.complete(a).written(pool)
+    }
+
+    // The SPI layer declined the transfer under way, which waits now.
+    #[tactic(auto, unfolding(crate::specs::Kernel::declined_call, crate::specs::Choice::pick))]
+    pub fn declined(self, pool: &mut [u8]) -> Outcome
+        ensures outcome { result ≡ (declined_call self pool.old).outcome }
+        ensures pool { pool.new ≡ (declined_call self pool.old).pool }
+    {
+        if self.pool_fault(pool.len()) {
+            return Outcome::answered(Answer::Pool, self);
+        }
+        if !self.buffers.to_complete() {
+            return Outcome::answered(Answer::Idle, self);
+        }
+        Outcome::done(self.declines())
+    }
+
+    // The transfer that waits is offered again.
+    #[tactic(auto, unfolding(crate::specs::Kernel::resume_call, crate::specs::Choice::pick))]
+    pub fn resume(self, pool: &mut [u8]) -> Outcome
+        ensures outcome { result ≡ (resume_call self pool.old).outcome }
+        ensures pool { pool.new ≡ (resume_call self pool.old).pool }
+    {
+        if self.pool_fault(pool.len()) {
+            return Outcome::answered(Answer::Pool, self);
+        }
+        if !self.buffers.to_resume() {
+            return Outcome::answered(Answer::Nothing, self);
+        }
+        self.write_length_again(pool);
+        self.begun_again().step().written(pool)
     }
 
     // The firing by value.

@@ -11,6 +11,7 @@ mod completion;
 pub mod config;
 pub mod create;
 pub mod data;
+mod decline;
 mod described;
 pub mod driver;
 mod guard;

@@ -62,7 +62,7 @@ impl Under {
         ensures { result ≡ read_buffer self }
     {
         match self {
-            Under::Idle | Under::Register => 17,
+            Under::Idle | Under::Register | Under::Waits(_) => 17,
             Under::FrameRead(x) => x.buffer,
             Under::FrameWrite(_) => 18,
         }
@@ -75,7 +75,7 @@ impl Buffers {
         ensures { result ≡ shorter self }
     {
         match self.under {
-            Under::Idle => 0,
+            Under::Idle | Under::Waits(_) => 0,
             Under::Register => 2,
             Under::FrameRead(x) => self.spi_buf_len.min(u16::from(x.length)),
             Under::FrameWrite(_) => (u16::from(self.tx_len) + 2).min(self.spi_buf_len),

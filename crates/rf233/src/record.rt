@@ -20,12 +20,12 @@ pub fn slot_has(slot: Option<Lent>, buffer: u8) -> bool
 }
 
 impl Under {
-    // The transfer under way has the buffer.
+    // The transfer under way has the buffer; one that waits has none.
     pub(crate) fn has(self, buffer: u8) -> bool
         ensures { result ≡ under_has self buffer }
     {
         match self {
-            Under::Idle => false,
+            Under::Idle | Under::Waits(_) => false,
             Under::Register => buffer == 16 || buffer == 17,
             Under::FrameRead(x) | Under::FrameWrite(x) => buffer == 18 || buffer == x.buffer,
         }

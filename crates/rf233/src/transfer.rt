@@ -1,6 +1,7 @@
-// A transfer as it goes out, and the two tests of the record: whether one may begin, and whether there is one to complete.
+// A transfer as it goes out, and the three tests of the record: whether one may begin, whether there is one to complete, and whether one
+// waits to be offered again.
 ghost use Rattle.std.specs.Prelude.{◌≡◌};
-ghost use Rattle.rf233.specs.Transfer.{free_to_start, kind_value, to_complete};
+ghost use Rattle.rf233.specs.Transfer.{free_to_start, kind_value, to_complete, to_resume};
 
 use crate::driver::{Buffers, Under};
 
@@ -36,17 +37,24 @@ pub struct Transfer {
 }
 
 impl Buffers {
-    // A starter may begin a transfer.
+    // A starter may begin a transfer: none is under way, and none waits.
     pub fn free_to_start(self) -> bool
         ensures { result ≡ free_to_start self }
     {
         matches!(self.under, Under::Idle)
     }
 
-    // There is a transfer for a completion to end.
+    // There is a transfer for a completion to end, or for the SPI layer to decline: one is under way.
     pub(crate) fn to_complete(self) -> bool
         ensures { result ≡ to_complete self }
     {
-        !matches!(self.under, Under::Idle)
+        !matches!(self.under, Under::Idle | Under::Waits(_))
+    }
+
+    // There is a transfer for a resume to offer again: one waits.
+    pub(crate) fn to_resume(self) -> bool
+        ensures { result ≡ to_resume self }
+    {
+        matches!(self.under, Under::Waits(_))
     }
 }
