@@ -3,11 +3,13 @@
 use Rattle.std.proofs.Common.{arith}
 use Rattle.std.proofs.Common.{◌≡◌, ℕ, Bool, cond, eqb, List, [], ◌∷◌, sym, ap, ◌∙◌}
 use native.Mathlib.Nat.{mod-mod, mod-add-mod}
+use Rattle.rf233.specs.Place.{transmit_place, receive_place}
 use Rattle.rf233.specs.declared.action.Action.{Action}
 use Rattle.rf233.specs.declared.answer.Reply.{Reply}
 use Rattle.rf233.specs.Answer.{answer_no}
 use Rattle.rf233.specs.Transfer.{kind_no}
 use Rattle.custody.specs.Book.{Page, Fed, write_no, read_no, brought, ended, called, given, noted, noted_all, begun, turned_down, entered}
+use Rattle.custody.specs.Book.Fed.{lends_transmit, lends_receive, completes, declines, resumes, other}
 use Rattle.custody.specs.BookCode.{wrapped}
 
 pub twice : (k : Page) → wrapped (wrapped k) ≡ wrapped k
@@ -26,9 +28,9 @@ pub given_wrapped : (b p m n : ℕ) (k : Page) → wrapped (given b p m n (wrapp
 unfolding wrapped
 given_wrapped b p m n k = simp (mod-mod, mod-add-mod)
 
-pub ended_wrapped : (k : Page) → wrapped (ended (wrapped k)) ≡ wrapped (ended k)
+pub ended_wrapped : (z : ℕ) (k : Page) → wrapped (ended z (wrapped k)) ≡ wrapped (ended z k)
 unfolding wrapped
-ended_wrapped k = simp (either, mod-mod)
+ended_wrapped z k = simp (either, mod-mod)
 
 pub begun_wrapped : (n w r : ℕ) (k : Page) → wrapped (begun n w r (wrapped k)) ≡ wrapped (begun n w r k)
 unfolding wrapped
@@ -38,8 +40,25 @@ pub turned_down_wrapped : (y : Reply) (k : Page) → wrapped (turned_down y (wra
 unfolding wrapped
 turned_down_wrapped y k = simp mod-mod
 
+completed_wrapped : (k : Page) → wrapped (called completes (wrapped k)) ≡ wrapped (called completes k)
+unfolding wrapped
+completed_wrapped k = ended_wrapped k.waits k
+
+declined_wrapped : (k : Page) → wrapped (called declines (wrapped k)) ≡ wrapped (called declines k)
+unfolding wrapped
+declined_wrapped k = ended_wrapped k.kind k
+
+resumed_wrapped : (k : Page) → wrapped (called resumes (wrapped k)) ≡ wrapped (called resumes k)
+unfolding wrapped
+resumed_wrapped k = simp mod-mod
+
 pub called_wrapped : (f : Fed) (k : Page) → wrapped (called f (wrapped k)) ≡ wrapped (called f k)
-called_wrapped f k = grind (arith, twice, brought_wrapped, ended_wrapped)
+called_wrapped (lends_transmit b) k = brought_wrapped b transmit_place k
+called_wrapped (lends_receive b) k = brought_wrapped b receive_place k
+called_wrapped completes k = completed_wrapped k
+called_wrapped declines k = declined_wrapped k
+called_wrapped resumes k = resumed_wrapped k
+called_wrapped other k = twice k
 
 pub noted_wrapped : (a : Action) (k : Page) → wrapped (noted a (wrapped k)) ≡ wrapped (noted a k)
 noted_wrapped a k = grind (arith, twice, given_wrapped)

@@ -7,7 +7,7 @@ use borrow.Author.Tests.{eqb-false}
 use lib.Dec.{lit<}
 use Rattle.rf233.proofs.Conditions.{by_flag}
 use Rattle.custody.specs.Book.{filled}
-use Rattle.custody.specs.Claim.{only, kind_of}
+use Rattle.custody.specs.Claim.{only}
 use Rattle.std.specs.Prelude.{Option, None, is_some}
 use Rattle.rf233.specs.Described.{is_above}
 use Rattle.rf233.specs.Line.{any_of, names}
@@ -16,6 +16,7 @@ use Rattle.laws.proofs.Logic.{none_left, none_right}
 use Rattle.rf233.specs.declared.driver.Lent.{Lent}
 use Rattle.rf233.specs.Choice.{one_of}
 use Rattle.rf233.specs.Place.{client_place, own_place, transmit_place, receive_place, transfer_place, when, copies}
+use Rattle.custody.proofs.UnderKind.{kind_of}
 
 -- the places of a buffer: its own, transmit, n times the line, under way; how many they are, and the sum of their numbers
 abbrev four : Bool → Bool → ℕ → Bool → List ℕ
@@ -40,16 +41,6 @@ pub own_or_under : (o t : Bool) (n : ℕ) (w : Bool) → 1 ≤ one o + one w →
     → T (one_of (own_place ∷ transfer_place ∷ []) (sum_by o t n w))
 own_or_under o t zero w i h = grind arith
 own_or_under o t (suc n) w i h = absurd (omega arith)
-
--- that a buffer is one of two, of the three own ones, of the first two of these, as a number
-pub of_two : (m n b : ℕ) → eqb m n ≡ false → one (eqb m b || eqb n b) ≡ one (eqb m b) + one (eqb n b)
-of_two m n b h = grind arith
-
-pub of_three : (b : ℕ) → one (eqb 16 b || (eqb 17 b || eqb 18 b)) ≡ one (eqb 16 b) + (one (eqb 17 b) + one (eqb 18 b))
-of_three b = grind arith
-
-pub of_first : (b : ℕ) → one (eqb 16 b || (eqb 17 b || false)) ≡ one (eqb 16 b) + one (eqb 17 b)
-of_first b = grind arith
 
 pub same : (c : ℕ) → eqb c c ≡ true
 same c = eq-eqb c c refl

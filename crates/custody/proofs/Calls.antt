@@ -2,7 +2,7 @@
 use Rattle.std.proofs.Common.{rules}
 use Rattle.std.proofs.Common.{◌≡◌, ℕ, ◌+◌, ◌≤◌, Bool, true, false, not, ◌||◌, T, eqb, ltb, leb, List, [], ℤ, length}
 use Rattle.std.proofs.Common.{sym, refl, ◌∙◌, subst, arith}
-use Rattle.std.proofs.Common.{ltb-false, le-leb, leb-false}
+use Rattle.std.proofs.Common.{ltb-false, le-leb, leb-false, ap}
 use borrow.Author.Tests.{not-false}
 use Rattle.rf233.specs.Action.{actions}
 use Rattle.rf233.specs.Answer.{answer_no, answer_of, refused}
@@ -16,7 +16,7 @@ use Rattle.rf233.specs.Line.{line_room, line, append}
 use Rattle.rf233.specs.Driver.Flag.{radio_on, transmitting, config_pending, sleep_pending, wake_pending, receiving}
 use Rattle.rf233.specs.Guard.{Called}
 use Rattle.rf233.specs.Interrupt.{handle_interrupt}
-use Rattle.rf233.specs.Kernel.{fired_call, completing, completion_call}
+use Rattle.rf233.specs.Kernel.{fired_call, completing, completion_call, declined_call, resume_call}
 use Rattle.rf233.specs.Record as rec
 use Rattle.std.specs.Prelude.{Some, is_some}
 use Rattle.rf233.specs.Record.{lent, record_has, receive_count}
@@ -24,12 +24,13 @@ use Rattle.rf233.specs.declared.driver.Lent.{Lent}
 use Rattle.rf233.specs.declared.transfer.TransferKind.TheVariants as transfer
 use Rattle.rf233.specs.State.{state_no}
 use Rattle.rf233.specs.Step.{quiet}
-use Rattle.rf233.specs.Transfer.{free_to_start, to_complete}
+use Rattle.rf233.specs.Transfer.{free_to_start, to_complete, waits, to_resume}
 use Rattle.rf233.specs.declared.answer.Outcome.{Outcome}
 use Rattle.rf233.specs.declared.driver.Driver.{Driver}
 use Rattle.rf233.specs.declared.driver.Under.{Under}
 use Rattle.rf233.specs.declared.state.InternalState.TheVariants.{SLEEP_WAKE, SLEEP_TRX_OFF, TX_STATUS_PRECHECK1}
-use Rattle.custody.specs.Book.{Page, Fed, called, entered}
+use Rattle.custody.specs.Book.{Page, Fed, called, entered, resumes}
+use Rattle.custody.specs.Book as book
 use Rattle.custody.specs.Book.Fed.{completes, other, lends_transmit, lends_receive}
 use Rattle.custody.specs.Claim.{fed}
 use Rattle.rf233.specs.Calls.{Call, made, yields}
@@ -49,19 +50,21 @@ use Rattle.rf233.specs.Calls.Call.{
   address_long,
   power,
   listener,
+  declined,
+  resume,
 }
-use Rattle.laws.proofs.Logic.{right, pair, is_false, nor_left, nor_right}
+use Rattle.laws.proofs.Logic.{right, pair, is_false, nor_left, nor_right, clash}
 use Rattle.rf233.proofs.Accepted.{IsDone, done_handle, done_completed}
 use Rattle.rf233.proofs.ChoiceLaws.{branch, either}
 use Rattle.rf233.proofs.CommitLaws.{commit_waits}
 use Rattle.rf233.proofs.Conditions.{by_flag}
 use Rattle.rf233.proofs.EveryStep.{commit_by}
-use Rattle.rf233.proofs.Facts.{kind, frame_of, of, holding}
-use Rattle.rf233.proofs.Fit.{fit, join_same, join_32, join_30, join_33, unsent, tx_fits, in_line}
+use Rattle.rf233.proofs.Facts.{kind, frame_of, of, holding, Facts}
+use Rattle.rf233.proofs.Fit.{fit, join_same, join_32, join_30, join_33, unsent, tx_fits, in_line, tx_home}
 use Rattle.rf233.proofs.LineLaws.{some_is, some_append, length_append, any_append}
 use Rattle.custody.proofs.BookLaws.{empty_is}
 use Rattle.custody.proofs.Custody.{Inv, After, Lengths, lengths_line}
-use Rattle.custody.proofs.Events.{completed_keeps, others, asks_any, fires_any}
+use Rattle.custody.proofs.Events.{completed_keeps, others, asks_any, fires_any, declined_keeps, resumed_keeps}
 use Rattle.custody.proofs.Match.{refuses, lends_tx, lends_rx}
 use Rattle.custody.proofs.Phases.{commits}
 
@@ -80,9 +83,18 @@ unfolding entered
 turned f k n d e v =
     rw e (record { match = refuses d.buffers k v.match (refused n d).reply refl refl; fitted = v.fitted; lengths = v.lengths })
 
--- the place that a frame transfer's buffer came from
-sent_is : (u : Under) → is_some (rec.tx_under_way u) ≡ eqb (frame_of (kind u)) 2
-sent_is u = grind arith
+-- with no transmit buffer held and none under way, there is no frame write, nor does one wait
+not_writing : (u : Under) (c : Facts) → T (fit c) → kind u ≡ c.transfer → waits u ≡ c.parked → is_some (rec.tx_under_way u) ≡ false
+    → c.tx ≡ false
+    → eqb (frame_of c.transfer) 2 ≡ false
+not_writing u c o k w s t =
+    by_flag (eqb (frame_of c.transfer) 2)
+    (λ e. by_flag c.parked (λ p. absurd (rw t at (tx_home.gives c o tt (rw (e, p) tt))))
+    (λ p. clash (is_some (rec.tx_under_way u)) s (under_way_writes u (ap (λ k. eqb (frame_of k) 2) k ∙ e) (w ∙ p))))
+    (λ e. e)
+  where
+    under_way_writes : (u : Under) → eqb (frame_of (kind u)) 2 ≡ true → waits u ≡ false → is_some (rec.tx_under_way u) ≡ true
+    under_way_writes u e p = grind arith
 
 module _ (k : Page) (d : Driver) (v : Inv k d) where
   abbrev Yields : Fed → Called → Type 0
@@ -153,6 +165,22 @@ module _ (k : Page) (d : Driver) (v : Inv k d) where
   fire_keeps p =
       branch (Yields other) _ _ _ (λ y. turned other k 12 d refl v)
       (λ y. took other k (handle_interrupt d) (done_handle d) (fires_any k d v))
+
+  declined_call_keeps : (p : List ℕ) → Yields book.declines (declined_call d p)
+  unfolding declined_call
+  declined_call_keeps p =
+      branch (Yields book.declines) _ _ _ (λ y. turned book.declines k 12 d refl v)
+      (λ y. branch (Yields book.declines) _ _ _ (λ z. turned book.declines k 11 d refl v)
+      (λ z. took book.declines k _ refl
+      (declined_keeps k d v (not-false (to_complete d.buffers) (is_false (not (to_complete d.buffers)) z)))))
+
+  resume_keeps : (p : List ℕ) → Yields resumes (resume_call d p)
+  unfolding resume_call
+  resume_keeps p =
+      branch (Yields resumes) _ _ _ (λ y. turned resumes k 12 d refl v)
+      (λ y. branch (Yields resumes) _ _ _ (λ z. turned resumes k 22 d refl v)
+      (λ z. took resumes k _ refl
+      (resumed_keeps k d v (not-false (to_resume d.buffers) (is_false (not (to_resume d.buffers)) z)))))
 
   completion_keeps : (xs p : List ℕ) → Yields completes (completion_call d xs p)
   unfolding completion_call completing
@@ -229,16 +257,17 @@ module _ (k : Page) (d : Driver) (v : Inv k d) where
       let e = flagged transmitting true (with_buffers (with_tx_len (n + 2) (with_tx (Some (lent b l)) d.buffers)) d) in
       let none = is_false t (nor_left t _ y) in
       let sends = nor_left (is_some (rec.tx_under_way u)) (flag transmitting d.flags) (nor_right t _ y) in
-      let free : T (not (t || (eqb (frame_of (kind u)) 2 || flag transmitting d.flags))) = subst
-      (λ x. T (not (t || (x || flag transmitting d.flags)))) (sent_is u) y in
+      let unsent = is_false (is_some (rec.tx_under_way u)) sends in
+      let free : T (not (t || (eqb (frame_of (kind u)) 2 || flag transmitting d.flags))) =
+      subst (λ x. T (not (t || (x || flag transmitting d.flags)))) (unsent ∙ sym (not_writing u (of d) v.fitted refl refl unsent none)) y in
       let low = ltb-false 15 b (is_false (ltb 15 b) (nor_left (ltb 15 b) (ltb 160 l) h)) in
       let w : Inv (called (lends_transmit b) k) e =
       record {
         match =
-            lends_tx d.buffers k v.match (lent b l) (n + 2) (omega arith) none (is_false (is_some (rec.tx_under_way u)) sends)
+            lends_tx d.buffers k v.match (lent b l) (n + 2) (omega arith) none unsent
             (is_false (record_has d.buffers b) r);
         fitted = tx_fits.gives (of d) v.fitted tt free;
-        lengths = lengths_sent b l n (nor_right (ltb 15 b) (ltb 160 l) h) s m (is_false (is_some (rec.tx_under_way u)) sends);
+        lengths = lengths_sent b l n (nor_right (ltb 15 b) (ltb 160 l) h) s m unsent;
       } in
       branch (After (called (lends_transmit b) k)) _ _ _
       (λ z. asks_any _ e w (with_state TX_STATUS_PRECHECK1 e) refl transfer.RegisterRead _ _ refl refl
@@ -292,6 +321,8 @@ module _ (k : Page) (d : Driver) (v : Inv k d) where
   keeps commit p = commit_keeps p
   keeps fire p = fire_keeps p
   keeps query p = setting_keeps d refl refl
+  keeps declined p = declined_call_keeps p
+  keeps resume p = resume_keeps p
   keeps (complete xs) p = completion_keeps xs p
   keeps (transmit b l n) p = transmit_keeps b l n p
   keeps (receive_buffer b l) p = receive_keeps b l

@@ -8,16 +8,17 @@ use Rattle.rf233.specs.Case.{accessed, handed}
 use Rattle.rf233.specs.Choice.{pick, within}
 use Rattle.rf233.specs.Described.{tx_length_bad, rx_length_bad, receive_length_bad}
 use Rattle.rf233.specs.Line.{line_room, line, front, behind, rotate, some, any_of}
-use Rattle.rf233.specs.Driver.{with_line, with_spi_buf_len}
+use Rattle.rf233.specs.Driver.{with_line, with_spi_buf_len, with_command}
 use Rattle.std.specs.Prelude.{Some, is_some}
 use Rattle.rf233.specs.Reception.{in_range}
 use Rattle.rf233.specs.Record.{tx_under_way, rx_under_way}
 use Rattle.rf233.specs.Rows.{Access, Shown}
 use Rattle.rf233.specs.Rows.Access.{none, reads, writes, reads_length, reads_frame, writes_frame}
 use Rattle.rf233.specs.Starter as starter
-use Rattle.rf233.specs.Starter.{buffers_away, register_transfer, frame_read, frame_read_into, frame_write, frame_write_from}
+use Rattle.rf233.specs.Starter.{buffers_away, register_transfer, frame_read, frame_read_into, frame_write, frame_write_from, command_of}
 use Rattle.rf233.specs.Step.{step_of}
 use Rattle.rf233.specs.Transfer.{kind_no, kind_value, transfer_of, free_to_start}
+use Rattle.rf233.specs.declared.driver.Command.{Command}
 use Rattle.rf233.specs.declared.driver.Lent.{Lent}
 use Rattle.rf233.specs.declared.transfer.TransferKind.{TransferKind}
 use Rattle.rf233.specs.declared.transfer.TransferKind.TheVariants as transfer
@@ -29,7 +30,6 @@ use Rattle.rf233.specs.declared.driver.Driver.{Driver}
 use Rattle.rf233.specs.declared.driver.Under.TheVariants.{Idle, Register, FrameRead, FrameWrite}
 use Rattle.rf233.specs.declared.starter.Started.{Started}
 use Rattle.custody.specs.Book.{Page, write_no, read_no, begun, noted_all}
-use Rattle.custody.specs.Claim.{kind_of}
 use Rattle.laws.proofs.Logic.{both_left, left, right, none_left, none_right}
 use Rattle.rf233.proofs.Facts.{of, under, holding}
 use Rattle.rf233.proofs.Facts.Kind.{access, reading}
@@ -40,6 +40,7 @@ use Rattle.rf233.proofs.LineLaws.{listed_behind, any_behind, any_rotate, front_b
 use Rattle.rf233.proofs.OwnBuffers.{idle_is}
 use Rattle.custody.proofs.Actions.{full, full_line}
 use Rattle.custody.proofs.Match.{Match, Own, begins}
+use Rattle.custody.proofs.UnderKind.{kind_of}
 
 -- every length of the record is within its bounds
 pub record Lengths (r : Buffers) : Type 0 where
@@ -93,19 +94,17 @@ handed_free = handed_keeps (λ b. free_to_start b ≡ true) (λ b e. e) (λ b e.
 
 -- ---- the lengths once a transfer has begun
 
-pub lengths_register : (b : Buffers) → Lengths b → Lengths (buffers_away Register b)
-lengths_register b g = search rules
+pub lengths_register : (c : Command) (b : Buffers) → Lengths b → Lengths (with_command c (buffers_away Register b))
+lengths_register c b g = search rules
 
-lengths_read : (x : Lent) (n : ℕ) (b : Buffers) → front (line b) ≡ Some x → n ≤ 127 → Lengths b
+lengths_read : (x : Lent) (n : ℕ) (b : Buffers) → front (line b) ≡ Some x → within 2 b.spi_buf_whole (n + 2) ≡ true → Lengths b
     → Lengths (with_spi_buf_len (n + 2) (buffers_away (FrameRead x) b))
 lengths_read x n b e h g =
-    let w = b.spi_buf_whole in
-    let least = leb-true 129 w (both_left (leb 129 w) _ g.whole) in
     let l = behind (line b) in
     let all = rw (front_behind (line b) x e) at g.rx in
     record {
       whole = g.whole;
-      present = rw (le-leb 2 (n + 2) (omega arith), le-leb (n + 2) w (omega arith));
+      present = h;
       tx = g.tx;
       tx_under = refl;
       rx = rw (listed_behind b.rx_line) (none_right (receive_length_bad x) (any_of receive_length_bad l) all);
@@ -122,7 +121,8 @@ module _ (k : Page) (e : Driver) (m : Match e.buffers k) (g : Lengths e.buffers)
   own_there = rw (idle_is e.buffers.under i) at m.own
 
   pub register_begins : (n : TransferKind) (x y : ℕ)
-      → register_transfer n x y e ≡ starter.begins (transfer_of n 16 17 x y 2 2) (buffers_away Register e.buffers) e
+      → register_transfer n x y e
+      ≡ starter.begins (transfer_of n 16 17 x y 2 2) (with_command (command_of n x y) (buffers_away Register e.buffers)) e
   unfolding register_transfer pick
   register_begins n x y = rw (i, own_there.tx, own_there.rx)
 
@@ -148,9 +148,14 @@ module _ (k : Page) (e : Driver) (m : Match e.buffers k) (g : Lengths e.buffers)
         → T (fit (under access (of e))) → Begun (register_transfer n x y e)
     register_keeps n x y q z o =
         subst Begun (sym (register_begins n x y))
-        (record { match = rw z (begins e.buffers k m Register (kind_value n) tt q i); fitted = o; lengths = lengths_register e.buffers g })
+        (record {
+          match = rw z (begins e.buffers k m Register (kind_value n) tt q i);
+          fitted = o;
+          lengths = lengths_register _ e.buffers g;
+        })
 
-    reading_keeps : (n : ℕ) → n ≤ 127 → T (some (line e.buffers) && fit (holding (of e).tx false (under reading (of e))))
+    pub reading_keeps : (n : ℕ) → within 2 e.buffers.spi_buf_whole (n + 2) ≡ true
+        → T (some (line e.buffers) && fit (holding (of e).tx false (under reading (of e))))
         → Begun (frame_read n e)
     reading_keeps n h o =
         full_line (line e.buffers) (left (some (line e.buffers)) _ o)
@@ -161,7 +166,7 @@ module _ (k : Page) (e : Driver) (m : Match e.buffers k) (g : Lengths e.buffers)
           lengths = lengths_read x n e.buffers q h g;
         }))
 
-    writing_keeps : T (ok_access writes_frame (of e)) → Begun (frame_write e)
+    pub writing_keeps : T (ok_access writes_frame (of e)) → Begun (frame_write e)
     writing_keeps o =
         full e.buffers.tx_buf (left (is_some e.buffers.tx_buf) _ o)
         (λ x q. subst Begun (sym (ap (λ s. frame_write_from s e) q ∙ write_begins x))
@@ -171,15 +176,22 @@ module _ (k : Page) (e : Driver) (m : Match e.buffers k) (g : Lengths e.buffers)
           lengths = lengths_write x e.buffers q g;
         }))
 
+    -- a frame of up to 127 bytes fits the buffer that it is read out by
+    frame_fits : (n : ℕ) → n ≤ 127 → within 2 e.buffers.spi_buf_whole (n + 2) ≡ true
+    frame_fits n h =
+        let w = e.buffers.spi_buf_whole in
+        let least = leb-true 129 w (both_left (leb 129 w) _ g.whole) in
+        rw (le-leb 2 (n + 2) (omega arith), le-leb (n + 2) w (omega arith))
+
     -- an access that passes the test of the rows
     pub access_keeps : (a : Arrived) (x : Access) → T (ok_access x (of e))
         → Inv (with_transfer (accessed x a l e) k) (accessed x a l e).driver
     access_keeps a none o = record { match = m; fitted = o; lengths = g }
     access_keeps a (reads r) o = register_keeps transfer.RegisterRead _ _ refl refl o
     access_keeps a (writes r v) o = register_keeps transfer.RegisterWrite _ _ refl refl o
-    access_keeps a reads_length o = reading_keeps 0 (omega arith) o
+    access_keeps a reads_length o = reading_keeps 0 (frame_fits 0 (omega arith)) o
     access_keeps a reads_frame o =
         let n = e.reception.length in
         let f = in_range e.reception in
-        reading_keeps n (leb→le n 127 (right (leb 11 n) _ (left f _ o))) (right f _ o)
+        reading_keeps n (frame_fits n (leb→le n 127 (right (leb 11 n) _ (left f _ o)))) (right f _ o)
     access_keeps a writes_frame o = writing_keeps o

@@ -14,7 +14,7 @@ use Rattle.rf233.specs.declared.answer.Answer.TheVariants.{Done, Busy}
 use Rattle.rf233.specs.declared.answer.Reply.{Reply}
 use Rattle.rf233.specs.declared.transfer.Transfer.{Transfer}
 use Rattle.custody.specs.Book.{Page, Fed, new_page, filled, begun, entered}
-use Rattle.custody.specs.Book.Fed.{lends_transmit, lends_receive, completes, other}
+use Rattle.custody.specs.Book.Fed.{lends_transmit, lends_receive, completes, other, declines, resumes}
 
 -- a call as the book is fed it, and its reply
 record Fact : Type 0 where
@@ -47,6 +47,13 @@ starts k w r = call other Done (actions []) (moves k w r)
 abbrev ends : Fact
 ends = call completes Done (actions []) None
 
+-- a decline, and a resume that offers this transfer
+abbrev waits : Fact
+waits = call declines Done (actions []) None
+
+abbrev again : TransferKind → ℕ → ℕ → Fact
+again k w r = call resumes Done (actions []) (moves k w r)
+
 -- four buffers to receive into
 abbrev four : List Fact
 four = receives 3 ∷ receives 4 ∷ receives 5 ∷ receives 6 ∷ []
@@ -76,6 +83,16 @@ pub faults :
     × (faulty (sends 3 ∷ starts FrameWrite 3 18 ∷ []) (sends 4) ≡ true)
     -- a completion with no transfer under way
     × (faulty [] ends ≡ true)
+    -- a decline with none, and either while one waits
+    × (faulty [] waits ≡ true)
+    × (faulty (starts RegisterRead 16 17 ∷ waits ∷ []) ends ≡ true)
+    × (faulty (starts RegisterRead 16 17 ∷ waits ∷ []) waits ≡ true)
+    -- a transfer of any call but a resume while one waits, and a resume's while one is under way
+    × (faulty (starts RegisterRead 16 17 ∷ waits ∷ []) (starts RegisterRead 16 17) ≡ true)
+    × (faulty (starts RegisterRead 16 17 ∷ []) (again RegisterRead 16 17) ≡ true)
+    -- a resume's whose client's buffer is not in its place, and a second transmit buffer while the first one's transfer waits
+    × (faulty (receives 3 ∷ starts FrameRead 18 3 ∷ waits ∷ []) (again FrameWrite 3 18) ≡ true)
+    × (faulty (sends 3 ∷ starts FrameWrite 3 18 ∷ waits ∷ []) (sends 4) ≡ true)
     -- a notice or a drop whose buffer is not in its place
     × (faulty (receives 3 ∷ []) (shows (Sent 3 true false)) ≡ true)
     × (faulty (receives 3 ∷ []) (shows (Dropped 3)) ≡ true)
@@ -89,12 +106,43 @@ pub faults :
     × (faulty (sends 3 ∷ []) (starts FrameWrite 3 17) ≡ true)
     × (faulty (sends 3 ∷ []) (starts FrameRead 18 3) ≡ true)
 unfolding entered filled
-faults = (refl, refl, refl, refl, refl, refl, refl, refl, refl, refl, refl, refl, refl, refl, refl, refl, refl, refl, refl, refl)
+faults = (
+  refl,
+  refl,
+  refl,
+  refl,
+  refl,
+  refl,
+  refl,
+  refl,
+  refl,
+  refl,
+  refl,
+  refl,
+  refl,
+  refl,
+  refl,
+  refl,
+  refl,
+  refl,
+  refl,
+  refl,
+  refl,
+  refl,
+  refl,
+  refl,
+  refl,
+  refl,
+  refl,
+)
 
 -- a start and its completion; buffers lent to both places, one of them under way; four to receive into, of which one is read into and
--- handed back, and then another is lent
+-- handed back, and then another is lent; a register transfer and a frame write that are declined, the latter twice, and offered again
 pub faultless : (after (starts RegisterRead 16 17 ∷ ends ∷ []) new_page ≡ new_page)
     × ((after (sends 3 ∷ starts FrameWrite 3 18 ∷ receives 4 ∷ ends ∷ []) new_page).fault ≡ false)
     × ((after (four ++ (starts FrameRead 18 4 ∷ ends ∷ shows (Received 4 10 true) ∷ receives 7 ∷ [])) new_page).fault ≡ false)
+    × (after (starts RegisterRead 16 17 ∷ waits ∷ again RegisterRead 16 17 ∷ ends ∷ []) new_page ≡ new_page)
+    × ((after (sends 3 ∷ starts FrameWrite 3 18 ∷ waits ∷ receives 4 ∷ again FrameWrite 3 18 ∷ waits ∷ again FrameWrite 3 18 ∷ ends ∷ [])
+    new_page).fault ≡ false)
 unfolding entered filled
-faultless = (refl, refl, refl)
+faultless = (refl, refl, refl, refl, refl)

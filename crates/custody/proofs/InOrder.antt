@@ -3,10 +3,11 @@
 use Rattle.std.proofs.Common.{◌≡◌, ℕ, Bool, true, false, not, ◌&&◌, T, eqb, leb, List, [], ◌∷◌, length}
 use Rattle.std.proofs.Common.{sym, refl, ap, ◌∙◌, subst, arith, leb→le, le_trans}
 use Rattle.std.specs.List.{fold}
-use Rattle.std.specs.Prelude.{Option, None, Some}
+use Rattle.std.specs.Prelude.{Option, None, Some, cond}
 use Rattle.rf233.specs.Action.{actions}
 use Rattle.rf233.specs.Case.{accessed, case_of, entering, handed, own_case, perform, shown, tree_at, trees, without_front, without_tx}
 use Rattle.rf233.specs.Completion.{completed, length_taken, transfer_over}
+use Rattle.rf233.specs.Decline.{again}
 use Rattle.rf233.specs.Driver.{assigning, with_buffers}
 use Rattle.rf233.specs.Interrupt.{handle_interrupt}
 use Rattle.rf233.specs.Line.{names, front, line, some}
@@ -15,7 +16,7 @@ use Rattle.rf233.specs.Rows.{Access, Row, Shown}
 use Rattle.rf233.specs.Rows.Access.{none, reads, reads_frame, reads_length, writes, writes_frame}
 use Rattle.rf233.specs.Rows.Row.{does}
 use Rattle.rf233.specs.Rows.Shown.{config_done, dropped_back, plain, power_changed, received_back, received_kept, sent_back}
-use Rattle.rf233.specs.Starter.{begun, frame_read_into, frame_write_from, register_transfer}
+use Rattle.rf233.specs.Starter.{begun, frame_read_into, frame_write_from, register_transfer, refrains, command_kind}
 use Rattle.rf233.specs.State.{state_no}
 use Rattle.rf233.specs.Step.{quiet, step_of}
 use Rattle.rf233.specs.Transfer.{free_to_start, kind_value}
@@ -25,9 +26,12 @@ use Rattle.rf233.specs.declared.answer.Outcome.{Outcome}
 use Rattle.rf233.specs.declared.arrived.Arrived.{Arrived}
 use Rattle.rf233.specs.declared.driver.Buffers.{Buffers}
 use Rattle.rf233.specs.declared.driver.Clients.{Clients}
+use Rattle.rf233.specs.declared.driver.Command.{Command}
 use Rattle.rf233.specs.declared.driver.Driver.{Driver}
 use Rattle.rf233.specs.declared.driver.Lent.{Lent}
-use Rattle.rf233.specs.declared.driver.Under.TheVariants.{Idle}
+use Rattle.rf233.specs.declared.driver.Offer.TheVariants as offer
+use Rattle.rf233.specs.declared.driver.Under.{Under}
+use Rattle.rf233.specs.declared.driver.Under.TheVariants.{Idle, FrameRead, FrameWrite, Waits, Register}
 use Rattle.rf233.specs.declared.transfer.Transfer.{Transfer}
 use Rattle.rf233.specs.declared.transfer.TransferKind.{TransferKind}
 use Rattle.rf233.specs.declared.transfer.TransferKind.TheVariants as transfer
@@ -35,14 +39,15 @@ use Rattle.custody.specs.Book.{Page}
 use Rattle.custody.specs.OldestFirst.{Queue, handed_back, read_into, stepped, told}
 use Rattle.laws.proofs.Logic.{all, all_at, all_below, below_at, is_true, left, right}
 use Rattle.rf233.proofs.ChoiceLaws.{either}
+use Rattle.rf233.proofs.DeclineLaws.{by_command}
 use Rattle.rf233.proofs.EveryStep.{Ends, Kept, commit_by, completion_by, every_access}
 use Rattle.rf233.proofs.Facts.{Facts, holding, of, settled, settled_is}
 use Rattle.rf233.proofs.Fit.{harmless, ok_row, ok_shown, row_fits}
 use Rattle.rf233.proofs.Keys.{state_below}
 use Rattle.rf233.proofs.LineLaws.{front_behind, listed_behind}
-use Rattle.rf233.proofs.OwnBuffers.{idle_is}
+use Rattle.rf233.proofs.OwnBuffers.{idle_is, found_none}
 use Rattle.rf233.specs.OneBuffer.{in_turn}
-use Rattle.rf233.proofs.InTurn.{access_turn, register_turn}
+use Rattle.rf233.proofs.InTurn.{access_turn, register_turn, again_turn}
 use Rattle.rf233.specs.declared.starter.Started.{Started}
 use Rattle.rf233.proofs.RowLaws.{entering_clients, entering_record}
 use Rattle.rf233.proofs.Trees.{Known, known, leaves, row_known, row_of, same_self}
@@ -71,10 +76,13 @@ module _ (q : List Lent) (k : Clients) where
   abbrev Starts : Started → Type 0
   Starts s = Names q k (begun s.answer) s.driver
 
+  refrained : (e : Driver) → e.clients ≡ k → Starts (refrains e)
+  refrained e c = rw (found_none e.buffers.under) (record { first = refl; clients = c })
+
   register_names : (e : Driver) → e.clients ≡ k → (n : TransferKind) (x y : ℕ) → eqb (kind_value n) 3 ≡ false
       → Starts (register_transfer n x y e)
   unfolding register_transfer
-  register_names e c n x y z = either Starts _ _ _ (record { first = rw z refl; clients = c }) (record { first = refl; clients = c })
+  register_names e c n x y z = either Starts _ _ _ (record { first = rw z refl; clients = c }) (refrained e c)
 
   -- a register transfer is asked for, whatever is under way
   pub asks : (e : Driver) → in_turn e.buffers ≡ q → e.clients ≡ k → (n : TransferKind) (x y : ℕ) → eqb (kind_value n) 3 ≡ false
@@ -94,15 +102,15 @@ module _ (k : Clients) (e : Driver) (i : e.buffers.under ≡ Idle) (c : e.client
 
   read_names : (s : Option Lent) (n : ℕ) → front (line e.buffers) ≡ s → Begins (frame_read_into s n e)
   unfolding frame_read_into
-  read_names None n f = record { first = refl; clients = c }
+  read_names None n f = refrained (in_turn e.buffers) k e c
   read_names (Some x) n f =
       either Begins _ _ _ (record { first = rw (i, front_behind (line e.buffers) x f, same_no x.buffer) refl; clients = c })
-      (record { first = refl; clients = c })
+      (refrained (in_turn e.buffers) k e c)
 
   write_names : (s : Option Lent) → Begins (frame_write_from s e)
   unfolding frame_write_from
-  write_names None = record { first = refl; clients = c }
-  write_names (Some x) = either Begins _ _ _ (record { first = refl; clients = c }) (record { first = refl; clients = c })
+  write_names None = refrained (in_turn e.buffers) k e c
+  write_names (Some x) = either Begins _ _ _ (record { first = refl; clients = c }) (refrained (in_turn e.buffers) k e c)
 
   access_names : (x : Access) (a : Arrived) (l : Actions)
       → Names (in_turn e.buffers) k (accessed x a l e).reply.transfer (accessed x a l e).driver
@@ -112,6 +120,22 @@ module _ (k : Clients) (e : Driver) (i : e.buffers.under ≡ Idle) (c : e.client
   access_names reads_length a l = read_names (front (line e.buffers)) 0 refl
   access_names reads_frame a l = read_names (front (line e.buffers)) e.reception.length refl
   access_names writes_frame a l = write_names e.buffers.tx_buf
+
+  -- what a resume offers again
+  again_names : (u : Under) → Begins (again u e)
+  again_names Idle = refrained (in_turn e.buffers) k e c
+  again_names Register = refrained (in_turn e.buffers) k e c
+  again_names (FrameRead x) = refrained (in_turn e.buffers) k e c
+  again_names (FrameWrite x) = refrained (in_turn e.buffers) k e c
+  again_names (Waits offer.Register) =
+      register_names (in_turn e.buffers) k e c _ _ _ (by_command (λ n. eqb (kind_value n) 3 ≡ false) refl refl e.buffers.command)
+  again_names (Waits offer.FrameRead) = read_names (front (line e.buffers)) _ refl
+  again_names (Waits offer.FrameWrite) = write_names e.buffers.tx_buf
+
+  pub again_went : (u : Under) → Went (in_turn e.buffers) k (step_of (again u e) (actions []))
+  again_went u =
+      let t = again_names u in
+      record { queue = t.first ∙ ap right_queue (sym (again_turn u e i)); clients = t.clients }
 
 -- ---- a row's actions
 

@@ -7,7 +7,7 @@ use borrow.Author.Tests.{eqb-true, not-false}
 use mathlib.Core.Path.{ap₂}
 use Rattle.rf233.specs.Case.{case_of, own_case}
 use Rattle.rf233.specs.Choice.{pick}
-use Rattle.rf233.specs.Completion.{completed, length_taken, transfer_over}
+use Rattle.rf233.specs.Completion.{completed, length_taken, transfer_over, places_back}
 use Rattle.rf233.specs.Described.{frame_no}
 use Rattle.rf233.specs.Driver.{flag, flagged, with_state}
 use Rattle.rf233.specs.Driver.Flag.{interrupt_handling, interrupt_pending}
@@ -23,7 +23,7 @@ use Rattle.rf233.specs.declared.driver.Buffers.{Buffers}
 use Rattle.rf233.specs.declared.driver.Driver.{Driver}
 use Rattle.rf233.specs.declared.driver.Lent.{Lent}
 use Rattle.rf233.specs.declared.driver.Under.{Under}
-use Rattle.rf233.specs.declared.driver.Under.TheVariants.{Idle, Register, FrameRead, FrameWrite}
+use Rattle.rf233.specs.declared.driver.Under.TheVariants.{Idle, Register, FrameRead, FrameWrite, Waits}
 use Rattle.rf233.specs.declared.reception.Reception.{Reception}
 use Rattle.rf233.specs.declared.state.InternalState.{InternalState}
 use Rattle.rf233.specs.declared.state.InternalState.TheVariants.{
@@ -49,8 +49,22 @@ use Rattle.rf233.proofs.OwnBuffers.{idle_is}
 use Rattle.rf233.proofs.Trees.{row_of}
 use Rattle.custody.proofs.Custody.{Inv}
 use Rattle.custody.proofs.Events.{returned_keeps, taken_keeps}
-use Rattle.custody.proofs.LengthRows.{Ready, idle, none_going, perform_agrees, row_told}
-use Rattle.custody.proofs.LengthSteps.{After, Agrees, AgreesAt, Onward, asks, first, frame_length, going_of, goes_on, length_over, rests}
+use Rattle.custody.proofs.LengthRows.{Ready, idle, perform_agrees, row_told, none_going}
+use Rattle.custody.proofs.LengthSteps.{
+  After,
+  Agrees,
+  AgreesAt,
+  Onward,
+  asks,
+  first,
+  frame_length,
+  going_of,
+  goes_on,
+  length_over,
+  rests,
+  no_read_going,
+  GoingAt,
+}
 use Rattle.custody.proofs.Phases as phases
 
 -- ---- the return of the buffers
@@ -90,9 +104,9 @@ names_read {A} n e s t = go (eqb n 34) (eqb n 63) (eqb n 65) refl refl refl
 
 -- what was seen agrees with the record once the buffers are back and a length byte is taken. Of transfer u in state n it is known that the
 -- state names it, and that no interrupt is handled during a frame's
-module _ (s : Reads) (n b byte : ℕ) (h : Bool) (e : Reception) where
+module _ (s : Reads) (n w b byte : ℕ) (h : Bool) (e : Reception) where
   abbrev Back : Under → Type 0
-  Back u = AgreesAt (over byte (going_of u n) s) Idle (done_no h n) b (frame_read_over n byte e)
+  Back u = AgreesAt (over byte (going_of u n) s) Idle (done_no h n) w b (frame_read_over n byte e)
 
   same_no : NamesNone n → done_no h n ≡ n
   same_no z = rw (z.not_34, z.not_63, z.not_65) (go h)
@@ -106,36 +120,41 @@ module _ (s : Reads) (n b byte : ℕ) (h : Bool) (e : Reception) where
   same_kept z = rw (z.not_63, z.not_65)
 
   back_at : (u : Under) → T (under_way u) → state_frame n ≡ frame_no u → (T (ltb 0 (frame_no u)) → h ≡ false)
-      → AgreesAt s u n b e → (going_buffer : (x : Lent) → u ≡ FrameRead x → b ≡ x.buffer) → Back u
+      → AgreesAt s u n w b e → (going_buffer : (x : Lent) → u ≡ FrameRead x → b ≡ x.buffer) → Back u
   unfolding pick
   back_at Idle t f c g x = absurd t
   back_at Register t f c g x =
       let z = names_none n f in
-      rw (same_no z, same_kept z) (record { going = g.going; length = g.length; frame = g.frame; right = g.right })
+      rw (same_no z, same_kept z) (record { going = no_read_going g.going.same; length = g.length; frame = g.frame; right = g.right })
   back_at (FrameWrite y) t f c g x =
       rw (names_write n f, c tt)
-      (record { going = g.going; length = λ t. absurd t; frame = λ t q. absurd t; right = g.right })
+      (record { going = no_read_going g.going.same; length = λ t. absurd t; frame = λ t q. absurd t; right = g.right })
   back_at (FrameRead y) t f c g x =
       names_read n f
       (λ z. rw (z, c tt) (record {
-        going = refl;
+        going = no_read_going refl;
         length = λ t. ap (λ b. Some (record { buffer = b; byte = byte })) (sym (x y refl));
         frame = λ t q. absurd t;
         right = g.right;
       }))
       (λ z. rw (z, c tt) (record {
-        going = refl;
+        going = no_read_going refl;
         length = λ t. (rw z at g.length) tt;
         frame = λ t q.
             let same = eqb-true byte e.length (not-false (eqb byte e.length) q) in
             ap₂ (λ b n. Some (record { buffer = b; byte = n })) (sym (x y refl)) same;
         right = g.right;
       }))
+  back_at (Waits o) t f c g x = absurd t
 
 -- where one of two does not hold, and the other does
 not_both : (a b : Bool) → a && b ≡ false → T a → b ≡ false
 not_both true b e t = e
 not_both false b e t = absurd t
+
+-- the length of spi_buf stays
+pub back_length : (u : Under) (b : Buffers) → (places_back u b).spi_buf_len ≡ b.spi_buf_len
+back_length u b = grind arith
 
 -- the buffer of a frame read is the first in turn
 read_first : (r : Buffers) (x : Lent) → r.under ≡ FrameRead x → buffer_in (front (in_turn r)) ≡ x.buffer
@@ -149,21 +168,20 @@ back_agrees p s byte a d r v i g =
     let h = flag interrupt_handling d.flags in
     let e = transfer_over (length_taken a d) in
     let t = over byte s.going s in
-    let rest = returned_keeps p (length_taken a d) (taken_keeps p a d v) i in
-    let at_rest : e.buffers.under ≡ Idle = idle_is e.buffers.under rest.free in
-    let turn : in_turn e.buffers ≡ in_turn b = rw at_rest (back_turn b v.match.room) in
+    let turn : in_turn e.buffers ≡ in_turn b = back_turn b v.match.room in
     let f = fit_frame.gives (of d) v.fitted tt tt in
     let named = eqb (frame_of (kind b.under)) (state_frame n) in
     let names = frame_no_lem b.under ∙ eqb-true (frame_of (kind b.under)) (state_frame n) (is_true named (left named _ f)) in
     let clear = is_false (ltb 0 (frame_of (kind b.under)) && h) (right named _ f) in
-    let back : AgreesAt t Idle (done_no h n) (first d) (frame_read_over n byte d.reception) =
-    subst (λ w. AgreesAt (over byte w s) Idle (done_no h n) (first d) (frame_read_over n byte d.reception)) (sym g.going)
-    (back_at s n (first d) byte h d.reception b.under (rw i tt) (sym names)
+    let l = b.spi_buf_len in
+    let back : AgreesAt t Idle (done_no h n) l (first d) (frame_read_over n byte d.reception) =
+    subst (λ w. AgreesAt (over byte w s) Idle (done_no h n) l (first d) (frame_read_over n byte d.reception)) (sym g.going.same)
+    (back_at s n l (first d) byte h d.reception b.under (rw i tt) (sym names)
     (λ z. not_both (ltb 0 (frame_of (kind b.under))) h clear (rw (← frame_no_lem b.under) z)) g (λ x q. read_first b x q)) in
-    subst (λ u. AgreesAt t u (state_no e.state) (first e) e.reception) (sym at_rest)
-    (subst (λ k. AgreesAt t Idle k (first e) e.reception) (sym (done_no_lem h d.state))
-    (subst (λ l. AgreesAt t Idle (done_no h n) (buffer_in (front l)) e.reception) (sym turn)
-    (subst (λ r. AgreesAt t Idle (done_no h n) (first d) (frame_read_over n r d.reception)) (sym r) back)))
+    subst (λ k. AgreesAt t Idle k e.buffers.spi_buf_len (first e) e.reception) (sym (done_no_lem h d.state))
+    (subst (λ w. AgreesAt t Idle (done_no h n) w (first e) e.reception) (sym (back_length b.under b))
+    (subst (λ q. AgreesAt t Idle (done_no h n) l (buffer_in (front q)) e.reception) (sym turn)
+    (subst (λ r. AgreesAt t Idle (done_no h n) l (first d) (frame_read_over n r d.reception)) (sym r) back)))
 
 -- ---- the phases
 
@@ -189,8 +207,8 @@ here {d} {e} q b r =
 
 module _ (p : Page) (s : Reads) where
   -- the read under way, in whatever state: none
-  none_in : (d : Driver) → Ready p s d → (n : ℕ) → s.going ≡ going_of d.buffers.under n
-  none_in d g n = none_going p s d g ∙ sym (ap (λ u. going_of u n) (idle p s d g))
+  none_in : (d : Driver) → Ready p s d → (n : ℕ) → GoingAt s.going d.buffers.under n d.buffers.spi_buf_len
+  none_in d g n = rw (idle p s d g) (no_read_going (none_going p s d g))
 
   other_state : (d : Driver) → Ready p s d → (m : InternalState) → length_over (state_no m) ≡ false → Agrees s (with_state m d)
   other_state d g m z = goes_on d (with_state m d) g.agrees (away z refl) None (none_in d g (state_no m))

@@ -1,7 +1,8 @@
 -- The row of a state keeps what `received_length` needs (`Agrees` of LengthSteps.antt), and announces no length but the one that both reads
 -- brought: `perform_agrees`, from one test over the rows of all states (`rows_tell`). Assumes nothing.
+use Prim.Native.Nat.{zero}
 use Rattle.std.proofs.Common.{◌≡◌, ℕ, ◌+◌, ◌-◌, ◌≤◌, Bool, true, false, not, ◌&&◌, T, eqb, leb, List, [], ◌∷◌, length}
-use Rattle.std.proofs.Common.{sym, refl, ap, ◌∙◌, subst, arith, leb→le, le_trans, le-leb}
+use Rattle.std.proofs.Common.{sym, refl, ap, ◌∙◌, subst, arith, leb→le, le_trans, le-leb, suc}
 use mathlib.Core.Bool.{or-false}
 use borrow.Author.Tests.{ne_eqb, eq-eqb}
 use Rattle.std.specs.List.{fold}
@@ -20,7 +21,7 @@ use Rattle.rf233.specs.Rows.Next.{same, to}
 use Rattle.rf233.specs.Rows.Access.{none, reads, reads_frame, reads_length, writes, writes_frame}
 use Rattle.rf233.specs.Rows.Row.{does}
 use Rattle.rf233.specs.Rows.Shown.{config_done, dropped_back, plain, power_changed, received_back, received_kept, sent_back}
-use Rattle.rf233.specs.Starter.{frame_read_into, frame_write_from}
+use Rattle.rf233.specs.Starter.{frame_read_into, frame_write_from, refrains}
 use Rattle.rf233.specs.State.{state_no}
 use Rattle.rf233.specs.Transfer.{free_to_start}
 use Rattle.rf233.specs.declared.action.Action.{Action}
@@ -51,7 +52,7 @@ use Rattle.custody.proofs.BookLaws.{same as same_no}
 use Rattle.custody.proofs.Custody.{handed_free}
 use Rattle.custody.proofs.Phases.{Rest}
 use Rattle.custody.proofs.LengthSteps.{After, Agrees, Goes, frame_65, frame_length, frame_over, goes_on, going_of, held_read}
-use Rattle.custody.proofs.LengthSteps.{length_over, register_going}
+use Rattle.custody.proofs.LengthSteps.{length_over, register_going, Stands, GoingAt, no_read_going, refrains_going}
 
 -- ---- a row's access, where no transfer is under way
 
@@ -64,6 +65,10 @@ reads_in reads_length f k = eqb k 63
 reads_in reads_frame f k = f && not (eqb k 63)
 reads_in writes_frame f k = true
 
+pub two_more : (n : ℕ) → eqb (n + 2) 2 ≡ eqb n 0
+two_more zero = refl
+two_more (suc n) = ne_eqb (suc n + 2) 2 (λ q. omega (arith, q)) ∙ sym (ne_eqb (suc n) 0 (λ q. omega (arith, q)))
+
 -- no frame of 0
 not_zero : (n : ℕ) → T (within 11 127 n) → eqb n 0 ≡ false
 not_zero n t = let h = leb→le 11 n (left (leb 11 n) _ t) in ne_eqb n 0 (λ q. omega arith)
@@ -72,21 +77,25 @@ module _ (s : Reads) (e : Driver) (i : e.buffers.under ≡ Idle) (g : s.going �
   abbrev k : ℕ
   k = state_no e.state
 
-  at_rest : s.going ≡ going_of e.buffers.under k
-  at_rest = rw i g
+  at_rest : Stands s e
+  at_rest = rw i (no_read_going g)
 
-  read_going : (x : Option Lent) (n : ℕ) → eqb n 0 ≡ eqb k 63 → Goes s (frame_read_into x n e)
+  refrained : Goes s (refrains e)
+  refrained = refrains_going s e at_rest
+
+  pub read_going : (x : Option Lent) (n : ℕ) → eqb n 0 ≡ eqb k 63 → Goes s (frame_read_into x n e)
   unfolding frame_read_into
-  read_going None n h = at_rest
-  read_going (Some x) n h = either (Goes s) _ _ _ (rw h refl) at_rest
+  read_going None n h = refrained
+  read_going (Some x) n h = either (Goes s) _ _ _ (record { same = rw h refl; short = λ q. two_more n ∙ h }) refrained
 
-  write_going : (x : Option Lent) → Goes s (frame_write_from x e)
+  pub write_going : (x : Option Lent) → Goes s (frame_write_from x e)
   unfolding frame_write_from
-  write_going None = at_rest
-  write_going (Some x) = either (Goes s) _ _ _ g at_rest
+  write_going None = refrained
+  write_going (Some x) = either (Goes s) _ _ _ (record { same = g; short = λ q. absurd (omega (arith, q)) }) refrained
 
   access_going : (x : Access) (a : Arrived) (l : Actions) → T (reads_in x (in_range e.reception) k)
-      → let o = accessed x a l e in (begins o.reply.transfer s).going ≡ going_of o.driver.buffers.under (state_no o.driver.state)
+      → let o = accessed x a l e in
+      GoingAt (begins o.reply.transfer s).going o.driver.buffers.under (state_no o.driver.state) o.driver.buffers.spi_buf_len
   access_going none a l t = at_rest
   access_going (reads r) a l t = register_going s e at_rest transfer.RegisterRead _ _ refl
   access_going (writes r v) a l t = register_going s e at_rest transfer.RegisterWrite _ _ refl
@@ -217,7 +226,7 @@ module _ (p : Page) (s : Reads) where
   idle d g = idle_is d.buffers.under g.rest.free
 
   pub none_going : (d : Driver) → Ready d → s.going ≡ None
-  none_going d g = g.agrees.going ∙ ap (λ u. going_of u (state_no d.state)) (idle d g)
+  none_going d g = g.agrees.going.same ∙ ap (λ u. going_of u (state_no d.state)) (idle d g)
 
   -- what the driver may announce is right
   may_tell : (d e : Driver) → Ready d → e.buffers ≡ d.buffers → e.reception ≡ d.reception

@@ -1,3 +1,4 @@
+pub mod UnderKind
 pub mod BookLaws
 pub mod Match
 pub mod Actions
@@ -6,6 +7,10 @@ pub mod Phases
 pub mod Undescribed
 pub mod Events
 pub mod Calls
+pub mod NewDriver
+pub mod OfferSteps
+pub mod ResumedIsDeclined
+pub mod BookOffers
 pub mod CustodyClaim
 pub mod BookCounts
 pub mod BookLists
@@ -19,4 +24,5 @@ pub mod LengthRows
 pub mod LengthCompletion
 pub mod ReceivedLength
 pub mod LengthOccurs
+pub mod ResumedOccurs
 pub mod OldestOccurs

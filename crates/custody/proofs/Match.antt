@@ -1,7 +1,7 @@
 -- The driver's record and the book agree: `Match`, and each move of buffers keeps it: a transfer that begins or ends, a buffer lent or
 -- handed back. From the laws of one and of two buffers; from this alone there is no fault. Assumes nothing.
 use Rattle.std.proofs.Common.{◌≡◌, ℕ, zero, suc, ◌+◌, ◌<◌, ◌≤◌, Bool, true, false, not, ◌&&◌, ◌||◌, T, eqb, ltb, leb, [], ◌∷◌, get_or, sym}
-use Rattle.std.proofs.Common.{refl, ◌∙◌, arith, eqb→eq, leb→le, ltb-false, le-ltb, lt-ltb, ne_eqb, eqb-true}
+use Rattle.std.proofs.Common.{refl, ◌∙◌, arith, eqb→eq, leb→le, ltb-false, le-ltb, lt-ltb, ne_eqb, eqb-true, subst}
 use mathlib.Core.Bool.{and-true, or-false, or_assoc}
 use mathlib.Core.List.{List}
 use mathlib.Core.Path.{ap}
@@ -9,34 +9,39 @@ use lib.Dec.{lit≤}
 use lib.ListN.{length}
 use Rattle.std.proofs.Math.Bool.{or_comm}
 use borrow.Author.Tests.{eqb-false, leb-false}
+use Rattle.rf233.specs.Decline.{waiting}
+use Rattle.rf233.specs.declared.driver.Offer.{Offer}
+use Rattle.rf233.specs.declared.driver.Offer.TheVariants as offer
 use Rattle.rf233.proofs.Conditions.{by_flag}
-use Rattle.laws.proofs.Logic.{left, right, none_left, none_right, or_left_comm, below_at}
-use Rattle.rf233.proofs.OwnBuffers.{idle_is}
-use Rattle.custody.proofs.BookLaws.{count_by, sum_by, fit, own_or_under, of_two, of_three, of_first, sum, Booked, both, More}
+use Rattle.laws.proofs.Logic.{left, right, none_left, none_right, or_left_comm, below_at, clash}
+use Rattle.rf233.proofs.OwnBuffers.{of_two, of_three, of_first, idle_is}
+use Rattle.custody.proofs.BookLaws.{count_by, sum_by, fit, own_or_under, sum, Booked, both, More}
 use Rattle.custody.proofs.BookLaws.{none_moved, two_moved, comes, goes, filled_none, filled_line, as_kind, empty_is, some_one, low, same}
 use Rattle.rf233.proofs.LineLaws.{listed_is, listed_behind, listed_rotate, front_behind, length_append, length_rotate, times_append}
 use Rattle.rf233.proofs.LineLaws.{times_rotate, any_append, any_rotate}
+use Rattle.custody.specs.Book.{Fed as fed}
 use Rattle.custody.specs.Book.{Page, new_page, missing, write_from, read_from, filled, room, full, brought, ended, given, names_own, taken}
-use Rattle.custody.specs.Book.{acts, turned_down}
-use Rattle.custody.specs.Claim.{only, held_below, kind_of, under_kind, under_write, under_read}
+use Rattle.custody.specs.Book.{acts, turned_down, called}
+use Rattle.custody.specs.Claim.{only, held_below}
 use Rattle.std.specs.Prelude.{Option, None, Some, is_some}
 use Rattle.rf233.specs.Transfer.{kind_no}
 use Rattle.rf233.specs.Line.{line_room, line, front, behind, append, any_of, names}
 use Rattle.rf233.specs.Record.{one, slot_has, under_has, times, count_of, record_has, tx_under_way, rx_under_way, receive_count}
 use Rattle.rf233.specs.Choice.{one_of}
-use Rattle.rf233.specs.Completion.{buffers_back}
+use Rattle.rf233.specs.Completion.{buffers_back, places_back}
 use Rattle.rf233.specs.Case.{without_tx, without_front, rotated}
 use Rattle.rf233.specs.Create.{new_driver}
 use Rattle.rf233.specs.Described.{is_above, slot_above, under_slot, twice_below, recorded_twice, own_nowhere, held_besides, crowded}
 use Rattle.rf233.specs.Starter.{buffers_away}
-use Rattle.rf233.specs.Transfer.{under_way, free_to_start, to_complete}
-use Rattle.rf233.specs.Driver.{with_tx, with_line, with_tx_len}
+use Rattle.rf233.specs.Transfer.{under_way, free_to_start, to_complete, to_resume, waits}
+use Rattle.rf233.specs.Driver.{with_tx, with_line, with_tx_len, with_under}
 use Rattle.rf233.specs.declared.answer.Reply.{Reply}
 use Rattle.rf233.specs.declared.driver.Buffers.{Buffers}
 use Rattle.rf233.specs.declared.driver.Lent.{Lent}
 use Rattle.rf233.specs.declared.driver.Under.{Under}
-use Rattle.rf233.specs.declared.driver.Under.TheVariants.{Idle, Register, FrameRead, FrameWrite}
+use Rattle.rf233.specs.declared.driver.Under.TheVariants.{Idle, Register, FrameRead, FrameWrite, Waits}
 use Rattle.rf233.specs.Place.{client_place, own_place, transmit_place, receive_place, transfer_place, places_of}
+use Rattle.custody.proofs.UnderKind.{kind_of, under_kind, under_write, under_read, waiting_kind}
 
 -- no frame transfer is under way
 abbrev no_frame : Under → Bool
@@ -67,17 +72,18 @@ high t x u = slot_above t || (any_of is_above x || slot_above (under_slot u))
 abbrev receives : List Lent → Under → ℕ
 receives x u = length x + one (is_some (rx_under_way u))
 
--- the transfer under way is the one that the book has
-pub record Going (u : Under) (n w r : ℕ) : Type 0 where
+-- the transfer under way, or the one that waits, is the one that the book has
+pub record Going (u : Under) (n w r z : ℕ) : Type 0 where
   pub kind : kind_of n ≡ under_kind u
   pub write : w ≡ under_write u
   pub read : r ≡ under_read u
+  pub waits : kind_of z ≡ waiting_kind u
 
 -- a record agrees with the book: by the own buffers' places, the transmit place, the line and the transfer under way
 pub record Matched (a b c : Bool) (t : Option Lent) (x : List Lent) (u : Under) (k : Page) : Type 0 where
   pub faultless : k.fault ≡ false
   pub booked : Booked (count t x u) (spots t x u) k.places k.accepted k.handed k.dropped
-  pub going : Going u k.kind k.write k.read
+  pub going : Going u k.kind k.write k.read k.waits
   pub own : Own a b c u
   pub below : high t x u ≡ false
   pub room : receives x u ≤ line_room
@@ -107,6 +113,7 @@ record Differ (u : Under) (t : Option Lent) (x : List Lent) (t' : Option Lent) (
   apart : eqb (under_write u) (under_read u) ≡ false
   has : (under_has u (under_write u) ≡ true) × (under_has u (under_read u) ≡ true)
   kinds : (eqb (under_kind u) 0 ≡ false) × (ltb 4 (under_kind u) ≡ false) × (names_own (under_kind u) (under_write u) (under_read u) ≡ true)
+  waits : waiting_kind u ≡ 0
   counts : (b : ℕ) → count t' x' u b ≡ count t x Idle b
   moves : (b : ℕ) → spots t' x' u b + both (under_write u) (write_from (under_kind u)) (under_read u) (read_from (under_kind u)) b
       ≡ spots t x Idle b + both (under_write u) transfer_place (under_read u) transfer_place b
@@ -118,6 +125,7 @@ differ register e =
       apart = refl;
       has = (refl, refl);
       kinds = (refl, refl, refl);
+      waits = refl;
       counts = λ b. omega (arith, of_three b, of_two 16 17 b refl);
       moves = λ b. omega (arith, of_three b, of_two 16 17 b refl);
     }
@@ -130,6 +138,7 @@ differ (reading {t} {x} {y}) e =
       apart = d;
       has = (refl, rw (d, same c));
       kinds = (refl, refl, refl);
+      waits = refl;
       counts = λ b. omega (arith, of_three b, of_first b, of_two 18 c b d);
       moves = λ b. omega (arith, of_three b, of_first b, of_two 18 c b d);
     }
@@ -142,6 +151,7 @@ differ (writing {x} {y}) e =
       apart = ne_eqb c 18 (λ z. omega arith);
       has = (rw (d, same c), refl);
       kinds = (refl, refl, refl);
+      waits = refl;
       counts = λ b. omega (arith, of_three b, of_first b, of_two 18 c b d);
       moves = λ b. omega (arith, of_three b, of_first b, of_two 18 c b d);
     }
@@ -183,6 +193,8 @@ module _ {a b c a' b' c' : Bool} {u : Under} {t t' : Option Lent} {x x' : List L
               m.faultless,
               as_kind (λ n. eqb n 0) k.kind refl,
               m.going.kind,
+              as_kind (λ n. eqb n 0) k.waits refl,
+              m.going.waits,
               as_kind (λ n. ltb 4 n || (not (names_own n w r) || (missing w (write_from n) l || missing r (read_from n) l))) n refl,
               e,
               v.kinds.1,
@@ -191,14 +203,14 @@ module _ {a b c a' b' c' : Bool} {u : Under} {t t' : Option Lent} {x x' : List L
               there k r _ v.lows.1 q,
             );
         booked = two_moved m.booked w r _ _ 4 4 v.lows.0 v.lows.1 v.apart p q v.counts v.moves;
-        going = record { kind = e; write = refl; read = refl };
+        going = record { kind = e; write = refl; read = refl; waits = m.going.waits ∙ sym v.waits };
         own = o;
         below = high_same s ∙ m.below;
         room = omega (arith, receives_same s, m.room);
       }
 
-  -- it ends
-  ends_at : Matched a b c t' x' u k → Own a' b' c' Idle → Matched a' b' c' t x Idle (ended k)
+  -- it ends, and none waits then
+  ends_at : Matched a b c t' x' u k → Own a' b' c' Idle → Matched a' b' c' t x Idle (ended 0 k)
   ends_at m o =
       let w = under_write u in
       let r = under_read u in
@@ -220,11 +232,35 @@ module _ {a b c a' b' c' : Bool} {u : Under} {t t' : Option Lent} {x x' : List L
         faultless = m.faultless;
         booked =
             two_moved m.booked w r 4 4 _ _ v.lows.0 v.lows.1 v.apart p q (λ b. sym (v.counts b)) (λ b. sym (v.moves b));
-        going = record { kind = refl; write = refl; read = refl };
+        going = record { kind = refl; write = refl; read = refl; waits = refl };
         own = o;
         below = sym (high_same s) ∙ m.below;
         room = omega (arith, receives_same s, m.room);
       })
+
+-- none is of kind 0
+none_of : (n : ℕ) → kind_of n ≡ 0 → n ≡ 0
+none_of n e = grind arith
+
+-- while a transfer is under way none waits, and its kind is not 0
+none_waits : (u : Under) → under_way u ≡ true → waiting_kind u ≡ 0
+none_waits u i = grind arith
+
+-- once it is over it may wait
+may_wait : {a b c : Bool} {t : Option Lent} {x : List Lent} (k : Page) (o : Offer) (z : ℕ) → kind_of z ≡ waiting_kind (Waits o)
+    → Matched a b c t x Idle (ended 0 k) → Matched a b c t x (Waits o) (ended z k)
+may_wait k o z e m =
+    by_flag (eqb k.kind 0) (λ h. clash (ended 0 k).fault m.faultless (rw h refl))
+    (λ h.
+    let n = rw h at m in
+    rw h (record {
+      faultless = n.faultless;
+      booked = n.booked;
+      going = record { kind = refl; write = refl; read = refl; waits = e };
+      own = record { tx = n.own.tx; rx = n.own.rx; buf = n.own.buf };
+      below = n.below;
+      room = n.room;
+    }))
 
 -- the client's buffer of transfer u is in its place, or at the front of the line
 abbrev pub Ready : Under → Buffers → Type 0
@@ -232,6 +268,7 @@ Ready Idle r = ⊥
 Ready Register r = Unit
 Ready (FrameRead x) r = front (line r) ≡ Some x
 Ready (FrameWrite x) r = r.tx_buf ≡ Some x
+Ready (Waits o) r = ⊥
 
 -- ---- a client's buffer
 
@@ -339,14 +376,15 @@ module _ (r : Buffers) (k : Page) (m : Match r k) where
           rw (listed_behind r.rx_line)
           (begins_at (reading {x = l}) first (record { tx = m.own.tx; rx = m.own.rx; buf = refl }) n e)
       go (FrameWrite x) y e m = begins_at (rw y writing) m (record { tx = m.own.tx; rx = m.own.rx; buf = refl }) n e
+      go (Waits o) y e m = absurd y
 
   -- the transfer ends; the transmit place is empty where a frame write's buffer comes back to it
-  pub ends : to_complete r ≡ true → held_besides r ≡ false → Match (buffers_back r.under r) (ended k)
-  ends i h = go r.under i h m
+  ends_none : to_complete r ≡ true → held_besides r ≡ false → Match (buffers_back Idle r) (ended 0 k)
+  ends_none i h = go r.under i h m
     where
       go : (u : Under) → under_way u ≡ true
           → is_some r.tx_buf && is_some (tx_under_way u) ≡ false
-          → MatchWith u r k → Match (buffers_back u r) (ended k)
+          → MatchWith u r k → MatchWith Idle (places_back u r) (ended 0 k)
       go Idle i h m = let z : ◌≡◌ {A = ℕ} 0 1 = cc in absurd (omega arith)
       go Register i h m = ends_at register m (record { tx = refl; rx = refl; buf = m.own.buf })
       go (FrameRead x) i h m =
@@ -355,6 +393,42 @@ module _ (r : Buffers) (k : Page) (m : Match r k) where
       go (FrameWrite x) i h m =
           ends_at (rw (empty_is r.tx_buf (rw and-true at h)) writing) m
           (record { tx = m.own.tx; rx = m.own.rx; buf = refl })
+      go (Waits o) i h m = let z : ◌≡◌ {A = ℕ} 0 1 = cc in absurd (omega arith)
+
+  -- so it does at a completion, where none waits, and at a decline, where it waits itself
+  pub ends : to_complete r ≡ true → held_besides r ≡ false → Match (buffers_back Idle r) (called fed.completes k)
+  ends i h =
+      subst (λ z. Match (buffers_back Idle r) (ended z k)) (sym (none_of k.waits (m.going.waits ∙ none_waits r.under i))) (ends_none i h)
+
+  pub parks : to_complete r ≡ true → held_besides r ≡ false → Match (buffers_back (waiting r.under) r) (called fed.declines k)
+  parks i h = go r.under i m.going.kind (ends_none i h)
+    where
+      go : (u : Under) → under_way u ≡ true → kind_of k.kind ≡ under_kind u → MatchWith Idle (places_back r.under r) (ended 0 k)
+          → MatchWith (waiting u) (places_back r.under r) (ended k.kind k)
+      go Register i e n = may_wait k offer.Register k.kind e n
+      go (FrameRead x) i e n = may_wait k offer.FrameRead k.kind e n
+      go (FrameWrite x) i e n = may_wait k offer.FrameWrite k.kind e n
+      go Idle i e n = clash false refl i
+      go (Waits o) i e n = clash false refl i
+
+  -- a transfer that waits does so no more
+  pub unparks : to_resume r ≡ true → Match (with_under Idle r) (called fed.resumes k)
+  unparks i = go r.under i m
+    where
+      go : (u : Under) → waits u ≡ true → MatchWith u r k → MatchWith Idle r (called fed.resumes k)
+      go (Waits o) i m =
+          record {
+            faultless = m.faultless;
+            booked = m.booked;
+            going = record { kind = m.going.kind; write = m.going.write; read = m.going.read; waits = refl };
+            own = record { tx = m.own.tx; rx = m.own.rx; buf = m.own.buf };
+            below = m.below;
+            room = m.room;
+          }
+      go Idle i m = clash false refl i
+      go Register i m = clash false refl i
+      go (FrameRead x) i m = clash false refl i
+      go (FrameWrite x) i m = clash false refl i
 
   -- what the agreement says of the record: at how many places it has a buffer, and at which
   count_is : (b : ℕ) → count_of r b ≡ count r.tx_buf (line r) r.under b
@@ -482,7 +556,7 @@ match_new l c =
                 (leb→le _ 1 (left v _ t), eqb→eq _ _ (right v _ t));
             counted = refl;
           };
-      going = record { kind = refl; write = refl; read = refl };
+      going = record { kind = refl; write = refl; read = refl; waits = refl };
       own = record { tx = refl; rx = refl; buf = refl };
       below = refl;
       room = lit≤ tt;

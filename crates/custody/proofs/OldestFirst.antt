@@ -25,16 +25,20 @@ use Rattle.rf233.specs.Calls.Call.{
   address_long,
   power,
   listener,
+  declined,
+  resume,
 }
 use Rattle.rf233.specs.Completion.{completed, length_taken, transfer_over}
 use Rattle.rf233.specs.Create.{new_call}
 use Rattle.rf233.specs.Data.{rx_full}
+use Rattle.rf233.specs.Decline.{declines, resumed, waits_no_more}
+use Rattle.rf233.specs.Described.{described}
 use Rattle.rf233.specs.Driver.{with_line}
 use Rattle.rf233.specs.Line.{append, names, line, line_room, some}
 use Rattle.rf233.specs.Record.{lent, receive_count}
 use Rattle.rf233.specs.Starter.{register_transfer}
 use Rattle.rf233.specs.Step.{quiet, step_of}
-use Rattle.rf233.specs.Transfer.{kind_value, to_complete}
+use Rattle.rf233.specs.Transfer.{kind_value, to_complete, to_resume}
 use Rattle.rf233.specs.declared.action.Action.{Action}
 use Rattle.rf233.specs.declared.answer.Outcome.{Outcome}
 use Rattle.rf233.specs.declared.answer.Reply.{Reply}
@@ -48,6 +52,7 @@ use Rattle.rf233.specs.declared.transfer.Transfer.{Transfer}
 use Rattle.rf233.specs.declared.transfer.TransferKind.{TransferKind}
 use Rattle.rf233.specs.declared.transfer.TransferKind.TheVariants as transfer
 use Rattle.custody.specs.Book.{Page, ended, entered, new_page}
+use Rattle.custody.specs.Book as book
 use Rattle.custody.specs.Claim.{Event, fed}
 use Rattle.custody.specs.OldestFirst.{OldestFirst, Queue, Seen, called, not_oldest, read_into, saw, seen, stepped, told, unseen}
 use Rattle.laws.proofs.Logic.{none_left, none_right}
@@ -56,11 +61,13 @@ use Rattle.rf233.proofs.ChoiceLaws.{either}
 use Rattle.rf233.proofs.EveryCall.{attending, every_call, laid, Lays, left_keeps, lending, reset_actions}
 use Rattle.rf233.specs.OneBuffer.{in_turn}
 use Rattle.rf233.proofs.InTurn.{append_turn, back_turn}
+use Rattle.rf233.proofs.OneBuffer.{declined_turn, reading_waits}
 use Rattle.custody.proofs.Calls.{keeps}
 use Rattle.custody.proofs.Custody.{Inv}
-use Rattle.custody.proofs.CustodyClaim.{newly}
 use Rattle.custody.proofs.Events.{returned_keeps, taken_keeps}
-use Rattle.custody.proofs.InOrder.{Ready, Went, asks, completes, rests, right_queue}
+use Rattle.custody.proofs.InOrder.{Ready, Went, asks, rests, right_queue, again_went}
+use Rattle.custody.proofs.InOrder as order
+use Rattle.custody.proofs.NewDriver.{newly}
 
 -- ---- a list of calls
 
@@ -157,6 +164,8 @@ module _ (p : Page) (s : Seen) (d : Driver) (v : Inv p d) (g : Good s d) where
   begins commit r h = as_before commit refl refl refl
   begins fire r h = as_before fire refl refl refl
   begins query r h = as_before query refl refl refl
+  begins declined r h = as_before declined refl refl refl
+  begins resume r h = as_before resume refl refl refl
   begins (complete xs) r h = as_before (complete xs) refl refl refl
   begins (transmit b l n) r h =
       record { queue = g.queue; listens = g.listens; quiet = g.quiet; none = g.none }
@@ -212,9 +221,23 @@ module _ (p : Page) (s : Seen) (d : Driver) (v : Inv p d) (g : Good s d) where
   completion : (xs : List ℕ) (a : Arrived) → to_complete d.buffers ≡ true → Leaves (complete xs) (completed a d)
   completion xs a i =
       let r = d.buffers in
-      let ready : Ready (ended p) (in_turn r) d.clients (hears g) (transfer_over (length_taken a d)) =
+      let over = book.called book.completes p in
+      let ready : Ready over (in_turn r) d.clients (hears g) (transfer_over (length_taken a d)) =
       record { rest = returned_keeps p (length_taken a d) (taken_keeps p a d v) i; turn = back_turn r v.match.room; clients = refl } in
-      goes (complete xs) (completed a d) (rw (done_completed a d) refl) (completes (ended p) (in_turn r) d.clients (hears g) a d ready)
+      goes (complete xs) (completed a d) (rw (done_completed a d) refl) (order.completes over (in_turn r) d.clients (hears g) a d ready)
+      (λ t. absurd t)
+
+  -- a decline leaves the receive buffers in turn, and a resume reads into the first of them
+  declines_so : described d ≡ false → to_complete d.buffers ≡ true → Leaves declined (quiet (declines d) (actions []))
+  declines_so e i =
+      goes declined _ refl (record { queue = ap right_queue (sym (declined_turn d e i)); clients = refl }) (λ t. absurd t)
+
+  resumes_so : to_resume d.buffers ≡ true → Leaves resume (resumed d)
+  resumes_so i =
+      let e = waits_no_more d in
+      goes resume (resumed d) refl
+      (subst (λ q. Went q d.clients (resumed d)) (sym (rw (reading_waits d.buffers.under i) refl))
+      (again_went d.clients e refl refl d.buffers.under))
       (λ t. absurd t)
 
   every : (c : Call) (l : List ℕ) → Leaves c (yields d c l)
@@ -228,6 +251,8 @@ module _ (p : Page) (s : Seen) (d : Driver) (v : Inv p d) (g : Good s d) where
         writes = λ c x z e q y. asked c e y transfer.RegisterWrite x z refl;
         resets = λ v e q y. was_reset (reset v) e y;
         completes = λ xs q e i. completion xs (arrived_of xs) i;
+        declines = λ e i. declines_so e i;
+        resumes = λ q e i. resumes_so i;
       }) c
 
 -- whoever is unheard stays so
@@ -237,6 +262,8 @@ called_earlier stop s h = h
 called_earlier commit s h = h
 called_earlier fire s h = h
 called_earlier query s h = h
+called_earlier declined s h = h
+called_earlier resume s h = h
 called_earlier (complete xs) s h = h
 called_earlier (transmit b l n) s h = h
 called_earlier (receive_buffer b l) s h = none_left s.unheard (not s.listens) h

@@ -28,7 +28,6 @@ use Rattle.rf233.specs.declared.state.InternalState.TheVariants.{
   TX_STATUS_PRECHECK1,
 }
 use Rattle.custody.specs.Book.{Page, noted, noted_all}
-use Rattle.custody.specs.Claim.{kind_of}
 use Rattle.laws.proofs.Logic.{left, right}
 use Rattle.rf233.proofs.ChoiceLaws.{branch}
 use Rattle.rf233.proofs.EveryStep.{Kept, Ends, every_access}
@@ -53,6 +52,7 @@ use Rattle.custody.proofs.Custody.{
   access_keeps,
 }
 use Rattle.custody.proofs.Match.{Match, begins}
+use Rattle.custody.proofs.UnderKind.{kind_of}
 
 -- the invariant, where a transfer may begin
 pub record Rest (k : Page) (d : Driver) : Type 0 where
@@ -133,12 +133,12 @@ module _ (k : Page) where
   unfolding start_commit by_answer
   commits d v =
       let e = with_state CONFIG_SHORT0_SET d in
-      subst (λ s. After k (by_answer s.answer (step_of s (actions [])) (quiet d (actions []))))
+      subst (λ s. After k (by_answer s.answer (step_of s (actions [])) (quiet d (actions [])) (quiet d (actions []))))
       (sym (register_begins k e v.inv.match v.inv.lengths v.free transfer.RegisterWrite _ _))
       (record {
         match = begins d.buffers k v.inv.match Register 2 tt refl v.free;
         fitted = to_45.gives (of d) v.inv.fitted (rests d v) tt;
-        lengths = lengths_register d.buffers v.inv.lengths;
+        lengths = lengths_register _ d.buffers v.inv.lengths;
       })
 
   -- the steps in which a completion ends

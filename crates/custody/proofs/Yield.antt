@@ -3,6 +3,10 @@
 use Rattle.std.proofs.Common.{◌≡◌, ℕ, zero, suc, ◌<◌, ◌≤◌, Bool, true, ◌&&◌, T, leb, List, [], ◌∷◌, ◌++◌, length, get_or, take}
 use Rattle.std.proofs.Common.{replicate, refl, arith, leb-true}
 use Rattle.std.proofs.lemmas.List.{length-take-le, length-append, length-replicate}
+use Rattle.rf233.specs.Decline.{again}
+use Rattle.rf233.specs.declared.driver.Offer.TheVariants as offer
+use Rattle.rf233.specs.declared.driver.Under.{Under}
+use Rattle.rf233.specs.declared.driver.Under.TheVariants.{FrameRead, FrameWrite, Waits, Idle, Register}
 use Rattle.laws.proofs.Logic.{left, right, is_true, all_below}
 use Rattle.std.specs.Prelude.{Option, None, Some}
 use Rattle.rf233.specs.Action.{actions}
@@ -16,7 +20,7 @@ use Rattle.rf233.specs.Rows.{Access, Row}
 use Rattle.rf233.specs.Line.{line, front}
 use Rattle.rf233.specs.Rows.Access.{none, reads, writes, reads_length, reads_frame, writes_frame}
 use Rattle.rf233.specs.Rows.Row.{does}
-use Rattle.rf233.specs.Starter.{register_transfer, frame_read_into, frame_write_from, begun}
+use Rattle.rf233.specs.Starter.{register_transfer, frame_read_into, frame_write_from, begun, refrains}
 use Rattle.rf233.specs.Step.{step_of}
 use Rattle.rf233.specs.declared.action.Action.{Action}
 use Rattle.rf233.specs.declared.action.Action.TheVariants.{Nothing}
@@ -33,6 +37,7 @@ use Rattle.rf233.specs.declared.starter.Started.{Started}
 use Rattle.rf233.specs.declared.transfer.Transfer.{Transfer}
 use Rattle.rf233.proofs.ChoiceLaws.{either}
 use Rattle.rf233.proofs.EveryStep.{commit_by, completion_by}
+use Rattle.rf233.proofs.OwnBuffers.{found_none}
 use Rattle.rf233.proofs.Trees.{leaves, unknown, row_of, row_of_lem}
 use Rattle.custody.specs.Book.{is_act}
 use Rattle.custody.specs.Yield.{act_count, Yield, SixActions}
@@ -87,22 +92,34 @@ nothing x = silent x None (omega arith)
 abbrev Small : Started → Type 0
 Small s = kind_no (begun s.answer) ≤ 4
 
+refrains_small : (d : Driver) → Small (refrains d)
+refrains_small d = rw (found_none d.buffers.under) (omega arith)
+
 kind_small : (k : TransferKind) → kind_value k ≤ 4
 kind_small k = grind arith
 
 register_small : (k : TransferKind) (x y : ℕ) (d : Driver) → Small (register_transfer k x y d)
 unfolding register_transfer
-register_small k x y d = grind (arith, kind_small k)
+register_small k x y d = grind (arith, kind_small k, found_none d.buffers.under)
 
 read_small : (s : Option Lent) (n : ℕ) (d : Driver) → Small (frame_read_into s n d)
 unfolding frame_read_into
-read_small None n d = omega arith
-read_small (Some x) n d = either Small _ _ _ (omega arith) (omega arith)
+read_small None n d = refrains_small d
+read_small (Some x) n d = either Small _ _ _ (omega arith) (refrains_small d)
 
 write_small : (s : Option Lent) (d : Driver) → Small (frame_write_from s d)
 unfolding frame_write_from
-write_small None d = omega arith
-write_small (Some x) d = either Small _ _ _ (omega arith) (omega arith)
+write_small None d = refrains_small d
+write_small (Some x) d = either Small _ _ _ (omega arith) (refrains_small d)
+
+again_small : (u : Under) (d : Driver) → Small (again u d)
+again_small Idle d = refrains_small d
+again_small Register d = refrains_small d
+again_small (FrameRead x) d = refrains_small d
+again_small (FrameWrite x) d = refrains_small d
+again_small (Waits offer.Register) d = register_small _ _ _ d
+again_small (Waits offer.FrameRead) d = read_small (front (line d.buffers)) _ d
+again_small (Waits offer.FrameWrite) d = write_small d.buffers.tx_buf d
 
 -- ---- the rows of all states
 
@@ -169,4 +186,6 @@ six_actions d c p =
       writes = λ c x y e q s. asks transfer.RegisterWrite x y e;
       resets = λ v e q s. with_actions_lem reset_actions (omega arith) tt Done None (omega arith);
       completes = λ xs q e i. completion_yields (arrived_of xs) d;
+      declines = λ e i. nothing Done;
+      resumes = λ q e i. silent Done _ (again_small d.buffers.under _);
     }) c

@@ -13,12 +13,14 @@ use Rattle.rf233.specs.declared.action.Action.TheVariants as action
 use Rattle.rf233.specs.declared.answer.Reply.{Reply}
 use Rattle.rf233.specs.declared.transfer.Transfer.{Transfer}
 
--- each of the 19 buffers' places; the transfer under way by its kind (0 none) and its two buffers; the three counts; the fault
+-- each of the 19 buffers' places; the transfer under way by its kind (0 none) and its two buffers; the kind of the one that waits (0 none;
+-- request 2026-05); the three counts; the fault
 pub record Page : Type 0 where
   pub places : List ℕ
   pub kind : ℕ
   pub write : ℕ
   pub read : ℕ
+  pub waits : ℕ
   pub accepted : ℕ
   pub handed : ℕ
   pub dropped : ℕ
@@ -32,6 +34,7 @@ new_page =
       kind = 0;
       write = 0;
       read = 0;
+      waits = 0;
       accepted = 0;
       handed = 0;
       dropped = 0;
@@ -41,7 +44,7 @@ new_page =
 -- a call, as far as the book looks at its arguments
 pub data Fed : Type 0 where
   lends_transmit lends_receive : ℕ → Fed
-  completes other : Fed
+  completes declines resumes other : Fed
 
 -- buffer b is not at place p; one above 18 is not at any
 abbrev pub missing : ℕ → ℕ → List ℕ → Bool
@@ -86,17 +89,21 @@ brought b p k =
 abbrev pub end_places : ℕ → ℕ → ℕ → List ℕ → List ℕ
 end_places k w r l = slice_set (slice_set l w (write_from k)) r (read_from k)
 
--- completion: the transfer ends; with none it cannot
-abbrev pub ended : Page → Page
-ended k =
+-- the transfer under way ends, and one of kind z waits then (0 none); with none under way it cannot
+abbrev pub ended : ℕ → Page → Page
+ended z k =
     cond (k.kind == 0) (record k { kind = 0; write = 0; read = 0; fault = true })
-    (record k { places = end_places k.kind k.write k.read k.places; kind = 0; write = 0; read = 0 })
+    (record k { places = end_places k.kind k.write k.read k.places; kind = 0; write = 0; read = 0; waits = z })
 
 -- what the call itself does
 abbrev pub called : Fed → Page → Page
 called (lends_transmit b) k = brought b transmit_place k
 called (lends_receive b) k = brought b receive_place k
-called completes k = ended k
+called completes k = ended k.waits k
+-- the transfer under way waits
+called declines k = ended k.kind k
+-- and does so no more: what is offered again begins as any other
+called resumes k = record k { waits = 0 }
 called other k = k
 
 -- a notice or a drop: buffer b goes from place p to the client; m and n are added to handed back and dropped
@@ -137,7 +144,7 @@ noted_all l k = fold (λ k x. noted x k) k l
 abbrev pub names_own : ℕ → ℕ → ℕ → Bool
 names_own k w r = cond (k == 3) (w == 18) (cond (k == 4) (r == 18) (w == 16 && r == 17))
 
--- a transfer, none being under way: it takes the two buffers that it names
+-- a transfer, none being under way and none waiting: it takes the two buffers that it names
 abbrev pub taken : ℕ → ℕ → ℕ → Page → Page
 taken n w r k =
     record k {
@@ -145,8 +152,8 @@ taken n w r k =
       kind = n;
       write = w;
       read = r;
-      fault = k.fault || (not (k.kind == 0) || (nat_lt 4 n || (not (names_own n w r)
-          || (missing w (write_from n) k.places || missing r (read_from n) k.places))));
+      fault = k.fault || (not (k.kind == 0) || (not (k.waits == 0) || (nat_lt 4 n || (not (names_own n w r)
+          || (missing w (write_from n) k.places || missing r (read_from n) k.places)))));
     }
 
 -- the two buffers of a call's transfer: 0 where there is none

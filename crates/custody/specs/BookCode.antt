@@ -4,10 +4,10 @@ use Rattle.rf233.specs.Place.{place_no}
 use Rattle.rf233.specs.Transfer.{kind_no}
 use Rattle.rf233.specs.declared.place.Place.{Place}
 use Rattle.custody.specs.Book.{Page, write_no, read_no, Fed}
-use Rattle.custody.specs.Book.Fed.{lends_transmit, lends_receive, completes, other}
+use Rattle.custody.specs.Book.Fed.{lends_transmit, lends_receive, completes, declines, resumes, other}
 use Rattle.custody.specs.declared.book.Book.{Book}
 use Rattle.custody.specs.declared.book.Fed as code
-use Rattle.custody.specs.declared.book.Fed.TheVariants.{LendsTransmit, LendsReceive, Completes, Other}
+use Rattle.custody.specs.declared.book.Fed.TheVariants.{LendsTransmit, LendsReceive, Completes, Other, Declines, Resumes}
 
 -- a page with its counts modulo 2 ^ 64
 unfoldable pub wrapped : Page → Page
@@ -25,6 +25,7 @@ page_of b =
       kind = kind_no b.under_way;
       write = write_no b.under_way;
       read = read_no b.under_way;
+      waits = kind_no b.waiting;
       accepted = b.accepted;
       handed = b.handed;
       dropped = b.dropped;
@@ -36,4 +37,6 @@ abbrev pub fed_of : code.Fed → Fed
 fed_of (LendsTransmit b) = lends_transmit b
 fed_of (LendsReceive b) = lends_receive b
 fed_of Completes = completes
+fed_of Declines = declines
+fed_of Resumes = resumes
 fed_of Other = other

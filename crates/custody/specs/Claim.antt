@@ -9,6 +9,8 @@ use Rattle.rf233.specs.Calls.Call.{
   commit,
   fire,
   query,
+  declined,
+  resume,
   complete,
   transmit,
   receive_buffer,
@@ -20,15 +22,15 @@ use Rattle.rf233.specs.Calls.Call.{
   power,
   listener,
 }
-use Rattle.custody.specs.Book.{Page, Fed, new_page, entered}
-use Rattle.custody.specs.Book.Fed.{lends_transmit, lends_receive, completes, other}
+use Rattle.rf233.specs.DeclineClaim.{under_way_offer, waiting_offer}
+use Rattle.rf233.specs.Transfer.{kind_no}
+use Rattle.custody.specs.Book.{Page, Fed, new_page, entered, write_no, read_no}
+use Rattle.custody.specs.Book.Fed.{lends_transmit, lends_receive, completes, declines, resumes, other}
 use Rattle.rf233.specs.Create.{new_call}
 use Rattle.rf233.specs.Place.{client_place, own_place, transfer_place, places_of}
 use Rattle.rf233.specs.Record.{record_has, one}
 use Rattle.rf233.specs.declared.driver.Buffers.{Buffers}
 use Rattle.rf233.specs.declared.driver.Driver.{Driver}
-use Rattle.rf233.specs.declared.driver.Under.{Under}
-use Rattle.rf233.specs.declared.driver.Under.TheVariants.{Idle, Register, FrameRead, FrameWrite}
 
 -- what the book looks at of a call's arguments
 abbrev pub fed : Call → Fed
@@ -37,6 +39,8 @@ fed stop = other
 fed commit = other
 fed fire = other
 fed query = other
+fed declined = declines
+fed resume = resumes
 fed (complete xs) = completes
 fed (transmit b l n) = lends_transmit b
 fed (receive_buffer b l) = lends_receive b
@@ -82,31 +86,6 @@ abbrev pub held_below : Buffers → ℕ → ℕ
 held_below r zero = 0
 held_below r (suc n) = held_below r n + one (record_has r n)
 
--- a kind as the driver's record has it: a register transfer's direction is not in it
-abbrev pub kind_of : ℕ → ℕ
-kind_of k = cond (k == 2) 1 k
-
--- the kind of the transfer under way
-abbrev pub under_kind : Under → ℕ
-under_kind Idle = 0
-under_kind Register = 1
-under_kind (FrameRead x) = 3
-under_kind (FrameWrite x) = 4
-
--- the buffer that it sends
-abbrev pub under_write : Under → ℕ
-under_write Idle = 0
-under_write Register = 16
-under_write (FrameRead x) = 18
-under_write (FrameWrite x) = x.buffer
-
--- the buffer that it reads into
-abbrev pub under_read : Under → ℕ
-under_read Idle = 0
-under_read Register = 17
-under_read (FrameRead x) = x.buffer
-under_read (FrameWrite x) = 18
-
 -- what is claimed at the end of the list
 pub record Kept (w : World) : Type 0 where
   -- no fault
@@ -115,10 +94,12 @@ pub record Kept (w : World) : Type 0 where
   pub placed : (b : ℕ) → b < 19 → places_of w.driver.buffers b ≡ only (slice_index_or w.book.places b client_place)
   -- 16, 17 and 18 are each in their own place or in the transfer under way
   pub own : (b : ℕ) → 16 ≤ b → b < 19 → T (one_of (own_place ∷ transfer_place ∷ []) (slice_index_or w.book.places b client_place))
-  -- a transfer is under way in the record exactly when in the book, with the same buffers
-  pub kind : kind_of w.book.kind ≡ under_kind w.driver.buffers.under
-  pub write : w.book.write ≡ under_write w.driver.buffers.under
-  pub read : w.book.read ≡ under_read w.driver.buffers.under
+  -- a transfer is under way in the record exactly when in the book, of that kind and with the same buffers
+  pub kind : w.book.kind ≡ kind_no (under_way_offer w.driver.buffers)
+  pub write : w.book.write ≡ write_no (under_way_offer w.driver.buffers)
+  pub read : w.book.read ≡ read_no (under_way_offer w.driver.buffers)
+  -- one waits in the record exactly when in the book, with that kind
+  pub waits : w.book.waits ≡ kind_no (waiting_offer w.driver.buffers)
   -- accepted = handed back + dropped + those of 0 to 15 in the driver's record
   pub counted : w.book.accepted ≡ w.book.handed + w.book.dropped + held_below w.driver.buffers 16
 

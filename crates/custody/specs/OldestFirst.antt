@@ -10,6 +10,8 @@ use Rattle.rf233.specs.Calls.Call.{
   commit,
   fire,
   query,
+  declined,
+  resume,
   complete,
   transmit,
   receive_buffer,
@@ -116,6 +118,8 @@ called stop s = s
 called commit s = s
 called fire s = s
 called query s = s
+called declined s = s
+called resume s = s
 called (complete xs) s = s
 called (transmit b l n) s = s
 called (receive_buffer b l) s = accepts b s

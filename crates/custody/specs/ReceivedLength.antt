@@ -22,6 +22,8 @@ use Rattle.rf233.specs.Calls.Call.{
   address_long,
   power,
   listener,
+  declined,
+  resume,
 }
 use Rattle.rf233.specs.Choice.{within}
 use Rattle.rf233.specs.Create.{new_call}
@@ -62,13 +64,15 @@ over byte (Some g) s =
     let r = Some (record { buffer = g.buffer; byte = byte }) in
     cond g.of_length (record s { going = None; length = r }) (record s { going = None; frame = r })
 
--- an accepted call
+-- an accepted call; a frame read that is declined is no longer under way, and is again once it is offered again
 abbrev pub called : Call → Reads → Reads
 called start s = s
 called stop s = s
 called commit s = s
 called fire s = s
 called query s = s
+called declined s = record s { going = None }
+called resume s = s
 called (complete xs) s = over (slice_index_or xs 1 0) s.going s
 called (transmit b l n) s = s
 called (receive_buffer b l) s = s

@@ -25,6 +25,7 @@ ghost use Rattle.custody.specs.Book.{
   turned_down,
   entered,
 };
+ghost use Rattle.custody.specs.Book.Fed.{completes, declines, resumes};
 ghost use Rattle.custody.specs.BookCode.{wrapped, numbers, page_of, fed_of};
 ghost use Rattle.rf233.specs.Place.{place_no};
 ghost use Rattle.rf233.specs.Transfer.{kind_no, kind_value};
@@ -35,13 +36,14 @@ use rf233::line::LINE_ROOM;
 use rf233::place::Place;
 use rf233::transfer::{Transfer, TransferKind};
 
-// The 19 buffers' places; the transfer under way; the counts; whether a fault was found.
+// The 19 buffers' places; the transfer under way; the one that waits, of which the kind counts; the counts; whether a fault was found.
 // A contract reads it as a page by `page_of`. No `impl Model`: a page forgets the bytes of the transfer, programs copy the book, and the
 // view of a `Copy` struct may forget nothing.
 #[derive(Clone, Copy)]
 pub struct Book {
     pub places: [Place; 19],
     pub under_way: Option<Transfer>,
+    pub waiting: Option<Transfer>,
     pub accepted: u64,
     pub handed: u64,
     pub dropped: u64,
@@ -54,6 +56,8 @@ pub enum Fed {
     LendsTransmit(u8),
     LendsReceive(u8),
     Completes,
+    Declines,
+    Resumes,
     Other,
 }
 
@@ -136,6 +140,7 @@ impl Book {
         Book {
             places,
             under_way: None,
+            waiting: None,
             accepted: 0,
             handed: 0,
             dropped: 0,
@@ -180,10 +185,11 @@ impl Book {
         self
     }
 
-    // The transfer under way ends: its two buffers go back to the places that a transfer of its kind takes them from. With none it cannot.
+    // The transfer under way ends: its two buffers go back to the places that a transfer of its kind takes them from; and then this one
+    // waits. With none under way it cannot.
     #[tactic(auto, unfolding(crate::specs::BookCode::wrapped))]
-    fn end_transfer(self) -> Book
-        ensures { page_of result ≡ wrapped (ended (page_of self)) }
+    fn end_transfer(self, waiting: Option<Transfer>) -> Book
+        ensures { page_of result ≡ wrapped (ended (kind_no waiting) (page_of self)) }
     {
         match self.under_way {
             None => Book {
@@ -195,10 +201,36 @@ impl Book {
                 Book {
                     places: put_at(sent, t.read, read_from(t.kind)),
                     under_way: None,
+                    waiting,
                     ..self
                 }
             }
         }
+    }
+
+    // A completion ends the transfer under way.
+    #[tactic(auto, unfolding(crate::specs::BookCode::wrapped))]
+    fn complete(self) -> Book
+        ensures { page_of result ≡ wrapped (called completes (page_of self)) }
+    {
+        self.end_transfer(self.waiting)
+    }
+
+    // Declined, it waits.
+    #[tactic(auto, unfolding(crate::specs::BookCode::wrapped))]
+    fn decline(self) -> Book
+        ensures { page_of result ≡ wrapped (called declines (page_of self)) }
+    {
+        self.end_transfer(self.under_way)
+    }
+
+    // A resume ends the waiting; what it offers begins as any other transfer.
+    #[tactic(auto, unfolding(crate::specs::BookCode::wrapped))]
+    fn resume(mut self) -> Book
+        ensures { page_of result ≡ wrapped (called resumes (page_of self)) }
+    {
+        self.waiting = None;
+        self
     }
 
     // What the call itself moves.
@@ -209,7 +241,9 @@ impl Book {
         match call {
             Fed::LendsTransmit(b) => self.bring(b, Place::Transmit),
             Fed::LendsReceive(b) => self.bring(b, Place::Receive),
-            Fed::Completes => self.end_transfer(),
+            Fed::Completes => self.complete(),
+            Fed::Declines => self.decline(),
+            Fed::Resumes => self.resume(),
             Fed::Other => self,
         }
     }
@@ -268,7 +302,7 @@ impl Book {
     fn take_buffers(mut self, t: Transfer) -> Book
         ensures { page_of result ≡ wrapped (taken (kind_value t.kind) t.write t.read (page_of self)) }
     {
-        self.fault |= self.under_way.is_some() || !names_own(t);
+        self.fault |= self.under_way.is_some() || self.waiting.is_some() || !names_own(t);
         self.fault |= self.is_missing(t.write, write_from(t.kind));
         self.fault |= self.is_missing(t.read, read_from(t.kind));
         let sent = put_at(self.places, t.write, Place::Transfer);
