@@ -29,6 +29,8 @@ use Rattle.script.specs.declared.line.Line.TheVariants.{
   Stop,
   ConfigCommit,
   Fired,
+  Declined,
+  Resume,
   Transmit,
   SetReceiveBuffer,
   ReadWriteDone,
@@ -74,6 +76,8 @@ call_rows =
     ∷ row "stop" (numbers [] Stop)
     ∷ row "config_commit" (numbers [] ConfigCommit)
     ∷ row "fired" (numbers [] Fired)
+    ∷ row "declined" (numbers [] Declined)
+    ∷ row "resume" (numbers [] Resume)
     ∷ row "read_write_done" (bytes 0 160 (λ bs. ReadWriteDone (length bs)))
     ∷ row "transmit" (numbers (any ∷ any ∷ any ∷ []) Transmit)
     ∷ row "set_receive_buffer" (numbers (any ∷ any ∷ []) SetReceiveBuffer)

@@ -14,6 +14,8 @@ pub enum Line {
     Stop,
     ConfigCommit,
     Fired,
+    Declined,
+    Resume,
     // The buffer, its length, and the frame's length.
     Transmit(u64, u64, u64),
     // The buffer and its length.

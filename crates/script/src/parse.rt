@@ -60,6 +60,8 @@ fn call(name: &str, words: Words, bytes: &mut [u8]) -> Result<Line, Malformed>
         "stop" => plain(words, Line::Stop),
         "config_commit" => plain(words, Line::ConfigCommit),
         "fired" => plain(words, Line::Fired),
+        "declined" => plain(words, Line::Declined),
+        "resume" => plain(words, Line::Resume),
         "read_write_done" => done_line(words, bytes),
         "transmit" => transmit_line(words),
         "set_receive_buffer" => receive_buffer_line(words),

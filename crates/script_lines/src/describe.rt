@@ -25,6 +25,8 @@ impl fmt::Display for Described<'_> {
             Line::Stop => f.write_str("stop"),
             Line::ConfigCommit => f.write_str("config_commit"),
             Line::Fired => f.write_str("fired"),
+            Line::Declined => f.write_str("declined"),
+            Line::Resume => f.write_str("resume"),
             Line::Transmit(buffer, length, n) => write!(f, "transmit {buffer} {length} {n}"),
             Line::SetReceiveBuffer(buffer, length) => write!(
                 f,

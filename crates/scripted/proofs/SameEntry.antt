@@ -8,7 +8,7 @@ use lib.ListN.{length}
 use lib.Seq.{set_out}
 use borrow.Author.Tests.{lt-ltb, ltb-false}
 use Rattle.custody.specs.Book.{Fed, Page, brought, called, entered}
-use Rattle.custody.specs.Book.Fed.{lends_transmit, lends_receive, completes, other}
+use Rattle.custody.specs.Book.Fed.{lends_transmit, lends_receive, completes, declines, resumes, other}
 use Rattle.rf233.proofs.Conditions.{by_flag}
 use Rattle.rf233.specs.declared.answer.Reply.{Reply}
 use Rattle.scripted.specs.Feeding.{in_byte, shortened}
@@ -31,6 +31,8 @@ module _ (k : Page) (places : length k.places ≤ 19) where
   called_in_byte (lends_transmit b) = brought_in_byte b 2
   called_in_byte (lends_receive b) = brought_in_byte b 3
   called_in_byte completes = refl
+  called_in_byte declines = refl
+  called_in_byte resumes = refl
   called_in_byte other = refl
 
   pub same_entry : (f : Fed) (y : Reply) → entered (shortened f) y k ≡ entered f y k

@@ -8,6 +8,8 @@ use Rattle.rf233.specs.Calls.Call.{
   commit,
   fire,
   query,
+  declined,
+  resume,
   complete,
   transmit,
   receive_buffer,
@@ -42,6 +44,8 @@ asked line.Start xs = calls start
 asked line.Stop xs = calls stop
 asked line.ConfigCommit xs = calls commit
 asked line.Fired xs = calls fire
+asked line.Declined xs = calls declined
+asked line.Resume xs = calls resume
 asked (line.Transmit b l n) xs = calls (transmit b l n)
 asked (line.SetReceiveBuffer b l) xs = calls (receive_buffer b l)
 asked (line.ReadWriteDone n) xs = calls (complete (take n xs))

@@ -1,7 +1,7 @@
 -- What the book of custody is fed of what a line asks for.
 use Rattle.std.specs.Prelude.{ℕ, cond, ltb}
 use Rattle.custody.specs.Book.{Fed}
-use Rattle.custody.specs.Book.Fed.{lends_transmit, lends_receive, completes, other}
+use Rattle.custody.specs.Book.Fed.{lends_transmit, lends_receive, completes, declines, resumes, other}
 use Rattle.custody.specs.Claim.{fed}
 use Rattle.scripted.specs.Asked.{Asked}
 use Rattle.scripted.specs.Asked.Asked.{calls, makes, nothing}
@@ -15,6 +15,8 @@ abbrev pub shortened : Fed → Fed
 shortened (lends_transmit b) = lends_transmit (in_byte b)
 shortened (lends_receive b) = lends_receive (in_byte b)
 shortened completes = completes
+shortened declines = declines
+shortened resumes = resumes
 shortened other = other
 
 -- what the book is fed; with a new driver it begins anew, and around the calls nothing is entered

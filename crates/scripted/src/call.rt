@@ -19,6 +19,8 @@ pub fn make(d: Driver, line: Line, bytes: &[u8], pool: &mut [u8]) -> Outcome
         Line::Stop => d.stop(pool),
         Line::ConfigCommit => d.config_commit(pool),
         Line::Fired => d.fire(pool),
+        Line::Declined => d.declined(pool),
+        Line::Resume => d.resume(pool),
         Line::ReadWriteDone(count) => d.read_write_done(first(bytes, count), pool),
         Line::Transmit(b, l, n) => d.transmit(b as usize, l as usize, n as usize, pool),
         Line::SetReceiveBuffer(b, l) => d.set_receive_buffer(b as usize, l as usize),

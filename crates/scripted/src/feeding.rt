@@ -23,6 +23,8 @@ pub fn fed(line: Line) -> Fed
         Line::Transmit(buffer, _, _) => Fed::LendsTransmit(in_byte(buffer)),
         Line::SetReceiveBuffer(buffer, _) => Fed::LendsReceive(in_byte(buffer)),
         Line::ReadWriteDone(_) => Fed::Completes,
+        Line::Declined => Fed::Declines,
+        Line::Resume => Fed::Resumes,
         _ => Fed::Other,
     }
 }

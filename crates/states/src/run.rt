@@ -24,5 +24,7 @@ pub fn outcome_of(driver: Driver, situation: &Situation) -> Outcome {
         Call::Transmit => driver.transmit(0, 130, 20, &mut pool),
         Call::ReceiveBuffer => driver.set_receive_buffer(1, 130),
         Call::Reset => driver.reset(true),
+        Call::Declined => driver.declined(&mut pool),
+        Call::Resume => driver.resume(&mut pool),
     }
 }

@@ -1,8 +1,8 @@
 // A driver in a given state and situation. It has the buffers that the state takes, so that refusal 12 does not describe it: transmit
 // buffer 0 and receive buffer 1, each 130 bytes long.
-use crate::situation::{Call, Situation};
+use crate::situation::{Call, Situation, Standing};
 use crate::state::Group;
-use rf233::driver::{Buffers, Clients, Driver, Flags, Lent, Settings, Under};
+use rf233::driver::{Buffers, Clients, Command, Driver, Flags, Lent, Offer, Settings, Under};
 use rf233::line::Line;
 use rf233::reception::Reception;
 use rf233::state::InternalState;
@@ -28,7 +28,7 @@ const RX_BUFFER: Lent = Lent {
     length: 130,
 };
 
-// The frame transfer that is under way in the state, if any.
+// The frame transfer that the state names, if any.
 fn frame_transfer(state: InternalState) -> Option<Under> {
     match state {
         InternalState::TX_WRITING_FRAME => Some(Under::FrameWrite(TX_BUFFER)),
@@ -64,7 +64,7 @@ fn is_read_out(state: InternalState) -> bool {
 // takes the receive buffer has it; one in which a frame is read out and announced has its length.
 pub fn is_possible(state: InternalState, situation: &Situation) -> bool {
     let reads = situation.flags.interrupt_handling
-        || (situation.call == Call::Firing && !situation.in_transfer);
+        || (situation.call == Call::Firing && situation.standing == Standing::Rest);
     !(frame_transfer(state).is_some() && reads)
         && !(takes_rx(state) && situation.empty_line)
         && (!is_read_out(state) || (11..=127).contains(&situation.held_length))
@@ -102,33 +102,47 @@ fn clients(situation: &Situation) -> Clients {
     }
 }
 
-// The transfer under way: the state's frame transfer, or a register's.
-fn under_way(state: InternalState, situation: &Situation) -> Under {
-    let other = if situation.in_transfer {
-        Under::Register
-    } else {
-        Under::Idle
-    };
-    frame_transfer(state).unwrap_or(other)
+// The transfer, once it waits.
+fn waiting(under: Under) -> Under {
+    match under {
+        Under::FrameRead(_) => Under::Waits(Offer::FrameRead),
+        Under::FrameWrite(_) => Under::Waits(Offer::FrameWrite),
+        _ => Under::Waits(Offer::Register),
+    }
 }
 
-// Buffer 0 where the state or the situation has a frame to send; in TX_WRITING_FRAME the transfer has it.
+// The transfer under way or waiting: the state's frame transfer, or a register's.
+fn under(state: InternalState, situation: &Situation) -> Under {
+    let frame = frame_transfer(state);
+    match situation.standing {
+        Standing::Rest => frame.unwrap_or(Under::Idle),
+        Standing::UnderWay => frame.unwrap_or(Under::Register),
+        Standing::Waits => waiting(frame.unwrap_or(Under::Register)),
+    }
+}
+
+// Buffer 0 where the state or the situation has a frame to send; in TX_WRITING_FRAME the transfer has it, unless that waits.
 fn tx_buf(state: InternalState, situation: &Situation) -> Option<Lent> {
+    let under = under(state, situation);
     let takes = matches!(
         state,
         InternalState::TX_STATUS_PRECHECK1 | InternalState::TX_RETURN_TO_RX
     );
     let sends = Group::of(state) == Group::Transmit && situation.call == Call::Completion;
-    let lent = state == InternalState::TX_WRITING_FRAME;
-    let held = (takes || sends || situation.flags.transmitting) && !lent;
+    let waits = matches!(under, Under::Waits(Offer::FrameWrite));
+    let lent = matches!(under, Under::FrameWrite(_));
+    let held = (takes || sends || waits || situation.flags.transmitting) && !lent;
     held.then_some(TX_BUFFER)
 }
 
-// Buffer 1 unless the situation is without it and the state does not take it; in the two states of a frame read the transfer has it.
+// Buffer 1 unless the situation is without it and the state does not take it; in the two states of a frame read the transfer has it, unless
+// that waits.
 fn rx_line(state: InternalState, situation: &Situation) -> Line {
+    let under = under(state, situation);
     let there = situation.call == Call::Completion && !situation.empty_line;
-    let lent = matches!(frame_transfer(state), Some(Under::FrameRead(_)));
-    let held = (takes_rx(state) || there) && !lent;
+    let waits = matches!(under, Under::Waits(Offer::FrameRead));
+    let lent = matches!(under, Under::FrameRead(_));
+    let held = (takes_rx(state) || there || waits) && !lent;
     if held {
         Line::One(RX_BUFFER)
     } else {
@@ -136,20 +150,31 @@ fn rx_line(state: InternalState, situation: &Situation) -> Line {
     }
 }
 
-// The record of the buffers: those of the transfer under way are out of their places.
+// The length of spi_buf: while a length or a frame is read, what that read takes; else its whole length.
+fn spi_buf_len(state: InternalState, situation: &Situation) -> u16 {
+    match state {
+        InternalState::RX_READING_FRAME_LEN => 2,
+        InternalState::RX_READING_FRAME => u16::from(situation.held_length) + 2,
+        _ => 129,
+    }
+}
+
+// The record of the buffers: those of the transfer under way are out of their places. The register transfer that waits is a read of
+// TRX_STATUS.
 fn buffers(state: InternalState, situation: &Situation) -> Buffers {
-    let under = under_way(state, situation);
+    let under = under(state, situation);
     let register = matches!(under, Under::Register);
     Buffers {
         spi_tx: !register,
         spi_rx: !register,
-        spi_buf: frame_transfer(state).is_none(),
+        spi_buf: !matches!(under, Under::FrameRead(_) | Under::FrameWrite(_)),
         spi_buf_whole: 129,
-        spi_buf_len: 129,
+        spi_buf_len: spi_buf_len(state, situation),
         tx_buf: tx_buf(state, situation),
         rx_line: rx_line(state, situation),
         tx_len: 22,
         under,
+        command: Command::Read(0x81, 0),
     }
 }
 

@@ -16,6 +16,17 @@ pub enum Call {
     Transmit,
     ReceiveBuffer,
     Reset,
+    Declined,
+    Resume,
+}
+
+// Whether a register transfer is under way, or waits since the SPI layer declined it. In a state that names a frame transfer it is that
+// one, and at rest it is under way.
+#[derive(Clone, Copy, PartialEq, Eq)]
+pub enum Standing {
+    Rest,
+    UnderWay,
+    Waits,
 }
 
 // What a situation's name speaks of.
@@ -56,16 +67,17 @@ enum Difference {
     NoListener,
     EmptyLine,
     InTransfer,
+    Waiting,
 }
 
-// A situation: its name, the call that is made, whether a register transfer is under way, the two bytes that arrive (a status that is no
+// A situation: its name, the call that is made, whether a transfer is under way or waits, the two bytes that arrive (a status that is no
 // state's is None), the held length and whether the frame is spoiled, the flags that are set, and what is not there.
 #[derive(Clone, Copy)]
 pub struct Situation {
     pub kind: Kind,
     pub name: &'static str,
     pub call: Call,
-    pub in_transfer: bool,
+    pub standing: Standing,
     pub status: Option<ExternalState>,
     pub result: u8,
     pub held_length: u8,
@@ -96,7 +108,7 @@ pub const PLAIN: Situation = Situation {
     kind: Kind::Plain,
     name: "-",
     call: Call::Completion,
-    in_transfer: true,
+    standing: Standing::UnderWay,
     status: Some(ExternalState::RX_AACK_ON),
     result: 0,
     held_length: 20,
@@ -123,7 +135,7 @@ pub const FIRING: Situation = Situation {
     kind: Kind::Event,
     name: "firing",
     call: Call::Firing,
-    in_transfer: false,
+    standing: Standing::Rest,
     ..PLAIN
 };
 
@@ -188,7 +200,8 @@ impl Situation {
             Difference::RadioOff => self.radio_off = true,
             Difference::NoListener => self.no_listener = true,
             Difference::EmptyLine => self.empty_line = true,
-            Difference::InTransfer => self.in_transfer = true,
+            Difference::InTransfer => self.standing = Standing::UnderWay,
+            Difference::Waiting => self.standing = Standing::Waits,
         }
         self
     }
@@ -305,7 +318,7 @@ pub fn interrupts() -> [Situation; 10] {
 }
 
 // The firings and calls while no register transfer is under way.
-pub fn calls() -> [Situation; 7] {
+pub fn calls() -> [Situation; 9] {
     [
         FIRING,
         Situation::call("start", Call::Start),
@@ -314,15 +327,33 @@ pub fn calls() -> [Situation; 7] {
         Situation::call("transmit", Call::Transmit),
         Situation::call("set_receive_buffer", Call::ReceiveBuffer),
         Situation::call("reset", Call::Reset),
+        Situation::call("declined", Call::Declined),
+        Situation::call("resume", Call::Resume),
     ]
 }
 
 // The firings and calls while one is under way.
-pub fn calls_in_transfer() -> [Situation; 4] {
+pub fn calls_in_transfer() -> [Situation; 6] {
     [
         Situation::call("firing_in_transfer", Call::Firing).with(Difference::InTransfer),
         Situation::call("start_in_transfer", Call::Start).with(Difference::InTransfer),
         Situation::call("stop_in_transfer", Call::Stop).with(Difference::InTransfer),
         Situation::call("config_commit_in_transfer", Call::Commit).with(Difference::InTransfer),
+        Situation::call("declined_in_transfer", Call::Declined).with(Difference::InTransfer),
+        Situation::call("resume_in_transfer", Call::Resume).with(Difference::InTransfer),
+    ]
+}
+
+// What may come while a transfer waits.
+pub fn calls_waiting() -> [Situation; 8] {
+    [
+        Situation::call("firing_waiting", Call::Firing).with(Difference::Waiting),
+        Situation::call("start_waiting", Call::Start).with(Difference::Waiting),
+        Situation::call("stop_waiting", Call::Stop).with(Difference::Waiting),
+        Situation::call("config_commit_waiting", Call::Commit).with(Difference::Waiting),
+        Situation::call("transmit_waiting", Call::Transmit).with(Difference::Waiting),
+        Situation::call("completion_waiting", Call::Completion).with(Difference::Waiting),
+        Situation::call("declined_waiting", Call::Declined).with(Difference::Waiting),
+        Situation::call("resume_waiting", Call::Resume).with(Difference::Waiting),
     ]
 }

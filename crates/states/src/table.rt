@@ -4,7 +4,7 @@
 use crate::actions::ActionColumn;
 use crate::columns::Step;
 use crate::same::{cases, exception, general};
-use crate::situation::{calls, calls_in_transfer, interrupts};
+use crate::situation::{calls, calls_in_transfer, calls_waiting, interrupts};
 use crate::state::{Numbered, STATES};
 use std::alloc::Global;
 use std::io;
@@ -24,8 +24,9 @@ const ABOUT_EVENTS: &str =
     "INTERRUPTS AND CALLS: what each does in every other state, where that is one thing, and the states where it \
     does another.\nIRQ_ is a completion of the read of IRQ_STATUS that shows that interrupt; where no line says more, a state does as if \
     none were shown. In 34, 63\nand 65 a frame transfer is under way, so that IRQ_STATUS is not being read there; 62, 64 and 68 have the \
-    receive buffer, so that empty_line is\nnot said of them. Firings and calls come while no register transfer is under way, or \
-    in_transfer; the radio is on, no other flag is set, and a\nbuffer is held only where the state takes one.";
+    receive buffer, so that empty_line is\nnot said of them. Firings and calls come while no register transfer is under way; or \
+    in_transfer; or waiting: a read of TRX_STATUS, in 34, 63\nand 65 the frame transfer, waits since it was declined. The radio is on, no \
+    other flag is set, and a buffer is held only where the state takes\none.";
 
 // The names of the columns.
 const HEADING: [&str; 6] = [
@@ -90,6 +91,7 @@ fn write_events(alloc: Global, to: &mut impl Write) -> io::Result<()> {
         .into_iter()
         .chain(calls())
         .chain(calls_in_transfer())
+        .chain(calls_waiting())
     {
         if let Some(step) = general(event) {
             write_step(alloc, to, "every other state", event.name, &step)?;
