@@ -1,10 +1,10 @@
-//! Answers: 0, or document 01's number of a refusal; and the values that calls return.
+//! Answers: 0, or a refusal's number in document 01 or 02; and the values that calls return.
 
 use std::fmt;
 
 use kernel::ErrorCode;
 
-/// What a call answers. The numbers are document 01's.
+/// What a call answers. The numbers are document 01's, 22 request 2026-05's.
 #[derive(Clone, Copy, Debug, PartialEq, Eq)]
 pub enum Answer {
     Done = 0,
@@ -23,10 +23,11 @@ pub enum Answer {
     Arrived = 13,
     Configure = 14,
     New = 15,
+    Nothing = 22,
 }
 
 impl Answer {
-    /// The refusal's name in document 01.
+    /// The refusal's name in the documents.
     pub fn name(self) -> &'static str {
         match self {
             Answer::Done => "DONE",
@@ -45,6 +46,7 @@ impl Answer {
             Answer::Arrived => "ARRIVED",
             Answer::Configure => "CONFIGURE",
             Answer::New => "NEW",
+            Answer::Nothing => "NOTHING",
         }
     }
 

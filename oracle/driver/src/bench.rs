@@ -12,6 +12,9 @@ use crate::area::Area;
 
 pub type Buffer = SubSliceMut<'static, u8>;
 
+/// Bytes of a frame transfer before the frame's own.
+pub const PSDU_OFFSET: usize = 2;
+
 /// What a call has set going so far.
 #[derive(Default)]
 pub struct Log {
@@ -42,16 +45,20 @@ impl Log {
 /// A transfer that the SPI layer has accepted and not completed.
 pub struct UnderWay {
     pub kind: Kind,
+    /// The first two bytes as they were offered.
+    pub command: [u8; 2],
     pub write: Buffer,
     pub read: Option<Buffer>,
 }
 
-/// The SPI device: accepts every transfer and keeps its two buffers.
+/// The SPI device: accepts every transfer and keeps its two buffers, unless it was told to
+/// decline the next one.
 pub struct Spi {
     area: &'static Area,
     log: &'static Log,
     under_way: Cell<Option<UnderWay>>,
     configured: Cell<bool>,
+    declines: Cell<bool>,
 }
 
 impl Spi {
@@ -60,11 +67,35 @@ impl Spi {
         self.configured.set(configured);
     }
 
+    /// The next transfer is declined as it is offered (see `session/declining`).
+    pub fn decline_next(&self) {
+        self.declines.set(true);
+    }
+
     /// Puts a transfer under way, or none, and gives back the one that was.
     pub fn replace(&self, under_way: Option<UnderWay>) -> Option<UnderWay> {
         self.under_way.replace(under_way)
     }
 
+    /// The transfer under way is offered again (request 2026-05), with its command bytes written
+    /// anew: both of a register transfer, the first of a frame read, the command and n of a frame
+    /// write. The driver is not asked.
+    pub fn resume(&self) {
+        let mut under_way = self.replace(None).expect("a transfer waits");
+        let n = under_way.write.len() - PSDU_OFFSET;
+        let [first, second] = under_way.command;
+        let write = &mut under_way.write;
+        write[0] = first;
+        match under_way.kind {
+            Kind::RegisterRead | Kind::RegisterWrite => write[1] = second,
+            Kind::FrameWrite => write[1] = n as u8,
+            Kind::FrameRead => {}
+        }
+        self.log.transfer.replace(Some(self.describe(&under_way)));
+        self.replace(Some(under_way));
+    }
+
+    /// A transfer as it is offered, with the bytes that stand in the pool now.
     fn describe(&self, under_way: &UnderWay) -> Transfer {
         let read = under_way.read.as_ref();
         let read = read.expect("the driver reads in every transfer");
@@ -98,8 +129,17 @@ impl<'a> spi::SpiMasterDevice<'a> for Spi {
     }
 
     fn read_write_bytes(&self, write: Buffer, read: Option<Buffer>) -> Result<(), spi::Declined> {
+        if self.declines.take() {
+            return Err((ErrorCode::BUSY, write, read));
+        }
         let kind = Kind::of(write[0]).expect("a command for a register or a frame");
-        let under_way = UnderWay { kind, write, read };
+        let command = [write[0], write[1]];
+        let under_way = UnderWay {
+            kind,
+            command,
+            write,
+            read,
+        };
         self.log.transfer.replace(Some(self.describe(&under_way)));
         let earlier = self.replace(Some(under_way));
         assert!(earlier.is_none(), "one transfer at a time");
@@ -226,6 +266,7 @@ impl Bench {
                 log,
                 under_way: Cell::new(None),
                 configured: Cell::new(true),
+                declines: Cell::new(false),
             },
             reset: pin(Pin::Reset),
             sleep: pin(Pin::Sleep),

@@ -37,6 +37,8 @@ pub struct Book {
     pub places: Places,
     /// The transfer under way: its kind, what it writes from and what it reads into.
     pub transfer: Option<(Kind, usize, usize)>,
+    /// The kind of the transfer that waits, its buffers in their places (request 2026-05).
+    pub waiting: Option<Kind>,
     pub accepted: u64,
     pub handed: u64,
     pub dropped: u64,
@@ -49,6 +51,7 @@ impl Default for Book {
         Book {
             places,
             transfer: None,
+            waiting: None,
             accepted: 0,
             handed: 0,
             dropped: 0,
@@ -77,7 +80,7 @@ impl Book {
             fault |= self.acted(action);
         }
         if let Some(transfer) = transfer {
-            fault |= self.began(transfer);
+            fault |= self.began(transfer, *call == Call::Resume);
         }
         fault
     }
@@ -87,7 +90,12 @@ impl Book {
         match call {
             Call::Transmit { buffer, .. } => self.brought(*buffer, Place::Transmit),
             Call::SetReceiveBuffer { buffer, .. } => self.brought(*buffer, Place::Receive),
-            Call::ReadWriteDone(_) => self.ended(),
+            Call::ReadWriteDone(_) => self.ended().is_none(),
+            Call::Declined => {
+                let ended = self.ended();
+                self.waiting = ended.or(self.waiting);
+                ended.is_none()
+            }
             _ => false,
         }
     }
@@ -110,15 +118,13 @@ impl Book {
         there + usize::from(away)
     }
 
-    /// The transfer under way ends: its buffers go where they came from.
-    fn ended(&mut self) -> bool {
-        let Some((kind, write, read)) = self.transfer.take() else {
-            return true;
-        };
+    /// The transfer under way ends, if there is one: its buffers go where they came from.
+    fn ended(&mut self) -> Option<Kind> {
+        let (kind, write, read) = self.transfer.take()?;
         let (write_place, read_place) = origins(kind);
         self.places[write] = write_place;
         self.places[read] = read_place;
-        false
+        Some(kind)
     }
 
     fn acted(&mut self, action: &Action) -> bool {
@@ -139,7 +145,9 @@ impl Book {
         }
     }
 
-    fn began(&mut self, transfer: &Transfer) -> bool {
+    /// A transfer begins. While one waits only a resume may begin one, which ends the waiting;
+    /// that it is the one that waited is no affair of the book's.
+    fn began(&mut self, transfer: &Transfer, resumed: bool) -> bool {
         let (write, read) = (transfer.write_buffer, transfer.read_buffer);
         let named = match transfer.kind {
             Kind::RegisterRead | Kind::RegisterWrite => (write, read) == (SPI_TX, SPI_RX),
@@ -147,7 +155,10 @@ impl Book {
             Kind::FrameWrite => read == SPI_BUF,
         };
         let (write_place, read_place) = origins(transfer.kind);
-        let mut fault = !named || self.transfer.is_some();
+        if resumed {
+            self.waiting = None;
+        }
+        let mut fault = !named || self.transfer.is_some() || self.waiting.is_some();
         fault |= self.moved(write, write_place, Place::UnderWay);
         fault |= self.moved(read, read_place, Place::UnderWay);
         self.transfer = Some((transfer.kind, write, read));
@@ -162,7 +173,7 @@ impl Book {
 }
 
 /// The places that a transfer's write buffer and read buffer come from and go back to.
-fn origins(kind: Kind) -> (Place, Place) {
+pub fn origins(kind: Kind) -> (Place, Place) {
     match kind {
         Kind::RegisterRead | Kind::RegisterWrite => (Place::Own, Place::Own),
         Kind::FrameRead => (Place::Own, Place::Receive),
@@ -303,5 +314,127 @@ mod tests {
         assert!(!book.enter(&receive(8), Answer::Done, &[], None));
         assert!(book.enter(&receive(9), Answer::Done, &[], None));
         assert_eq!((book.accepted, book.handed), (6, 1));
+    }
+
+    const DONE: Answer = Answer::Done;
+
+    fn register() -> Transfer {
+        transfer(Kind::RegisterRead, 16, 17)
+    }
+
+    /// A book with this transfer under way, and one of the same with it waiting.
+    fn under_way_and_waiting(transfer: &Transfer) -> (Book, Book) {
+        let mut book = Book::default();
+        assert!(!book.enter(&TRANSMIT, DONE, &[], None));
+        assert!(!book.enter(&receive(3), DONE, &[], None));
+        assert!(!book.enter(&Call::Start, DONE, &[], Some(transfer)));
+        let mut waiting = book.clone();
+        assert!(!waiting.enter(&Call::Declined, DONE, &[], None));
+        (book, waiting)
+    }
+
+    fn all_kinds() -> [Transfer; 4] {
+        [
+            register(),
+            transfer(Kind::RegisterWrite, 16, 17),
+            transfer(Kind::FrameRead, 18, 3),
+            transfer(Kind::FrameWrite, 4, 18),
+        ]
+    }
+
+    #[test]
+    fn a_decline_puts_the_buffers_back_and_a_resume_takes_them_again() {
+        for transfer in all_kinds() {
+            let (under_way, mut book) = under_way_and_waiting(&transfer);
+            let kind = Some(transfer.kind);
+            assert_eq!((book.transfer, book.waiting), (None, kind));
+            let places = [3, 4, 16, 17, 18].map(|buffer| book.places[buffer]);
+            let (own, sent, received) = (Place::Own, Place::Transmit, Place::Receive);
+            assert_eq!(places, [received, sent, own, own, own]);
+            assert!(!book.enter(&Call::Resume, DONE, &[], Some(&transfer)));
+            assert_eq!(book, under_way);
+            // Once more.
+            assert!(!book.enter(&Call::Declined, DONE, &[], None));
+            assert!(!book.enter(&Call::Resume, DONE, &[], Some(&transfer)));
+            let done = Call::ReadWriteDone(vec![0, 0]);
+            assert!(!book.enter(&done, DONE, &[], None));
+            assert_eq!((book.transfer, book.waiting), (None, None));
+        }
+    }
+
+    #[test]
+    fn an_end_with_none_under_way_is_a_fault() {
+        for call in [Call::ReadWriteDone(vec![0, 0]), Call::Declined] {
+            assert!(Book::default().enter(&call, DONE, &[], None));
+            for transfer in all_kinds() {
+                let (mut under_way, mut book) = under_way_and_waiting(&transfer);
+                let before = book.clone();
+                assert!(book.enter(&call, DONE, &[], None));
+                assert_eq!(book, before);
+                assert!(!under_way.enter(&call, DONE, &[], None));
+                // Refused, it is none.
+                assert!(!before.clone().enter(&call, Answer::Idle, &[], None));
+            }
+        }
+    }
+
+    #[test]
+    fn a_transfer_of_another_call_while_one_waits_is_a_fault() {
+        for transfer in all_kinds() {
+            let (_, book) = under_way_and_waiting(&transfer);
+            for call in [Call::Start, Call::Fired, Call::ConfigCommit, Call::Stop] {
+                for other in all_kinds() {
+                    assert!(book.clone().enter(&call, DONE, &[], Some(&other)));
+                }
+                assert!(!book.clone().enter(&call, DONE, &[], None));
+            }
+            // The waiting one's buffer is at the transmit place: a notice may take it, another
+            // buffer may not come.
+            let second = Call::Transmit {
+                buffer: 5,
+                length: 160,
+                n: 10,
+            };
+            assert!(book.clone().enter(&second, DONE, &[], None));
+            assert!(!book.clone().enter(&receive(5), DONE, &[], None));
+        }
+    }
+
+    #[test]
+    fn a_resumed_transfer_takes_its_buffers_from_their_places() {
+        for transfer in all_kinds() {
+            // While it is under way they are not there.
+            let (mut book, _) = under_way_and_waiting(&transfer);
+            assert!(book.enter(&Call::Resume, DONE, &[], Some(&transfer)));
+        }
+        for (kind, write, read) in [
+            (Kind::FrameRead, 18, 4),
+            (Kind::FrameRead, 18, 5),
+            (Kind::FrameWrite, 3, 18),
+            (Kind::FrameWrite, 5, 18),
+            (Kind::RegisterRead, 17, 16),
+        ] {
+            let (_, mut book) = under_way_and_waiting(&register());
+            let wrong = transfer(kind, write, read);
+            assert!(book.enter(&Call::Resume, DONE, &[], Some(&wrong)));
+        }
+        // That the transfer is the one that waited is no affair of the book's.
+        for other in all_kinds() {
+            let (_, mut book) = under_way_and_waiting(&register());
+            assert!(!book.enter(&Call::Resume, DONE, &[], Some(&other)));
+            assert_eq!(book.waiting, None);
+        }
+    }
+
+    #[test]
+    fn the_receive_place_holds_four_while_one_of_them_waits() {
+        let read = transfer(Kind::FrameRead, 18, 3);
+        let (_, mut book) = under_way_and_waiting(&read);
+        for buffer in [5, 6, 7] {
+            assert!(!book.enter(&receive(buffer), DONE, &[], None));
+        }
+        assert!(book.clone().enter(&receive(8), DONE, &[], None));
+        assert!(!book.enter(&Call::Resume, DONE, &[], Some(&read)));
+        assert!(book.enter(&receive(8), DONE, &[], None));
     }
 }

@@ -59,6 +59,9 @@ pub fn make(driver: &Driver, bench: &'static Bench, call: &Call, has: bool) -> A
         Call::SetClient { client, present } => set_client(driver, bench, client, present),
         Call::Query(Query::Initialize) => return Answer::of(driver.initialize()),
         Call::Query(_) | Call::New { .. } => {}
+        // The Rust has no such calls and hears of neither: the SPI stand-in keeps the transfer.
+        Call::Declined => {}
+        Call::Resume => bench.spi.resume(),
     }
     Answer::Done
 }

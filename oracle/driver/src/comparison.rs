@@ -52,10 +52,11 @@ impl Default for Comparison {
 }
 
 impl Comparison {
-    /// Reads the arguments. `other`: takes an option that this does not know, or says no.
+    /// Reads the arguments. `other`: takes an option that this does not know, with what stands
+    /// behind it, or says no.
     pub fn of_program(
         usage: &str,
-        mut other: impl FnMut(&str) -> bool,
+        mut other: impl FnMut(&str, &mut Options) -> Result<bool, String>,
     ) -> Result<Comparison, String> {
         let mut options = Options::of_program();
         let mut read = Comparison::default();
@@ -66,7 +67,7 @@ impl Comparison {
                 "--lines" => read.lines = options.number(&option)? as usize,
                 "--trace" => read.trace = true,
                 "--keep" => read.keep = Some(options.word(&option)?),
-                name if other(name) => {}
+                name if other(name, &mut options)? => {}
                 _ => return Err(format!("no option {option}\n{usage}")),
             }
         }

@@ -4,8 +4,8 @@
 use crate::action::Kind;
 use crate::answer::Answer;
 use crate::area::{BUFFER, CLIENT_BUFFERS, POOL};
-use crate::line::Call;
-use crate::view::View;
+use crate::line::{Call, Line};
+use crate::view::{Transferring, View};
 
 /// Frame bytes that a transmit's length byte and check sequence add.
 const ADDED: u64 = 4;
@@ -18,6 +18,9 @@ const CHANNELS: std::ops::RangeInclusive<u8> = 11..=26;
 /// in the first, and does not compare what the frame read brings in the second.
 const RX_READING_FRAME_LEN_DONE: u8 = 64;
 const RX_READING_FRAME: u8 = 65;
+
+/// Said where a declined transfer is not resumed at once: the Rust has no transfer that waits.
+const WAITS: &str = "a declined transfer waits";
 
 /// A line that leaves the domain.
 pub struct Edge {
@@ -38,6 +41,9 @@ fn reason(view: &View, call: &Call) -> Option<String> {
     if added(call, answer) {
         let name = answer.name();
         return Some(format!("{} {name} is an added refusal", answer as u8));
+    }
+    if view.waits && *call != Call::Resume {
+        return Some(WAITS.into());
     }
     let reason = match call {
         Call::Transmit { .. } if view.kind() == Some(Kind::FrameWrite) => {
@@ -96,12 +102,14 @@ fn added(call: &Call, answer: Answer) -> bool {
 }
 
 /// The answer by document 01's rules and their order, with request 2026-07's for a receive
-/// buffer.
+/// buffer and 2026-05's for a decline and a resume.
 pub fn answer(view: &View, call: &Call) -> Answer {
     let guarded = matches!(
         call,
         Call::Transmit { .. }
             | Call::ReadWriteDone(_)
+            | Call::Declined
+            | Call::Resume
             | Call::Start
             | Call::Stop
             | Call::ConfigCommit
@@ -114,6 +122,8 @@ pub fn answer(view: &View, call: &Call) -> Answer {
         Call::Transmit { buffer, length, n } => transmit(view, *buffer, *length, *n),
         Call::SetReceiveBuffer { buffer, length } => receive_buffer(view, *buffer, *length),
         Call::ReadWriteDone(arrived) => completion(view, arrived.len()),
+        Call::Declined => refused_if(under_way(view).is_none(), Answer::Idle),
+        Call::Resume => refused_if(!view.waits, Answer::Nothing),
         Call::Start => refused_if(!matches!(view.state(), 0 | 31), Answer::Already),
         Call::Stop => refused_if(matches!(view.state(), 30 | 31), Answer::Already),
         Call::Reset { configured } => refused_if(!configured, Answer::Configure),
@@ -160,8 +170,13 @@ fn receive_buffer(view: &View, buffer: u64, length: u64) -> Answer {
     }
 }
 
+/// The transfer that can end: one that waits cannot.
+fn under_way(view: &View) -> Option<&Transferring> {
+    view.under_way.as_ref().filter(|_| !view.waits)
+}
+
 fn completion(view: &View, arrived: usize) -> Answer {
-    match &view.under_way {
+    match under_way(view) {
         None => Answer::Idle,
         Some(transfer) => refused_if(
             !(2..=transfer.shorter_length()).contains(&arrived),
@@ -178,6 +193,9 @@ fn exists(buffer: u64, length: u64) -> bool {
 /// Whether a call outside the domain can be made on the Rust: what it is handed must
 /// exist, and its types must allow it (no slice twice, no channel that is none).
 fn passable(view: &View, call: &Call) -> bool {
+    if view.waits {
+        return false;
+    }
     match call {
         Call::Transmit { buffer, length, .. } | Call::SetReceiveBuffer { buffer, length } => {
             exists(*buffer, *length) && !view.has(*buffer)
@@ -187,8 +205,21 @@ fn passable(view: &View, call: &Call) -> bool {
             Some(transfer) => arrived.len() <= transfer.read.active.len(),
         },
         Call::New { length, channel } => *length <= BUFFER as u64 && CHANNELS.contains(channel),
-        Call::SetChannel(_) => false,
+        Call::SetChannel(_) | Call::Declined | Call::Resume => false,
         _ => true,
+    }
+}
+
+/// Whether a line around the calls leaves the domain.
+pub fn edge_around(view: &View, line: &Line) -> Option<Edge> {
+    match line {
+        Line::Passed(_) => None,
+        _ if view.waits => Some(Edge {
+            reason: WAITS.into(),
+            passable: false,
+        }),
+        Line::Pool { at, bytes } => pool_edge(view, *at, bytes.len()),
+        _ => None,
     }
 }
 

@@ -23,21 +23,40 @@ pub enum Line {
 /// A call on the driver, by the Rust's name.
 #[derive(Clone, Debug, PartialEq, Eq)]
 pub enum Call {
-    New { length: u64, channel: u8 },
+    New {
+        length: u64,
+        channel: u8,
+    },
     Start,
     Stop,
     ConfigCommit,
     Fired,
     ReadWriteDone(Vec<u8>),
-    Transmit { buffer: u64, length: u64, n: u64 },
-    SetReceiveBuffer { buffer: u64, length: u64 },
-    Reset { configured: bool },
+    /// The SPI layer declined the transfer under way (request 2026-05).
+    Declined,
+    /// The transfer that waits is offered again.
+    Resume,
+    Transmit {
+        buffer: u64,
+        length: u64,
+        n: u64,
+    },
+    SetReceiveBuffer {
+        buffer: u64,
+        length: u64,
+    },
+    Reset {
+        configured: bool,
+    },
     SetAddress(u16),
     SetPan(u16),
     SetAddressLong([u8; 8]),
     SetTxPower(i8),
     SetChannel(u8),
-    SetClient { client: Client, present: bool },
+    SetClient {
+        client: Client,
+        present: bool,
+    },
     Query(Query),
 }
 
@@ -73,6 +92,8 @@ impl Call {
             Call::ConfigCommit => "config_commit",
             Call::Fired => "fired",
             Call::ReadWriteDone(_) => "read_write_done",
+            Call::Declined => "declined",
+            Call::Resume => "resume",
             Call::Transmit { .. } => "transmit",
             Call::SetReceiveBuffer { .. } => "set_receive_buffer",
             Call::Reset { .. } => "reset",
@@ -164,6 +185,7 @@ impl fmt::Display for Call {
             Call::SetTxPower(power) => write!(f, " {power}"),
             Call::SetChannel(channel) => write!(f, " {channel}"),
             Call::Start | Call::Stop | Call::ConfigCommit | Call::Fired | Call::Query(_) => Ok(()),
+            Call::Declined | Call::Resume => Ok(()),
         }
     }
 }

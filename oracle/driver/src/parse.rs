@@ -55,6 +55,8 @@ fn call<'a>(name: &[u8], words: &mut Words<impl Iterator<Item = &'a [u8]>>) -> O
         b"config_commit" => Call::ConfigCommit,
         b"fired" => Call::Fired,
         b"read_write_done" => Call::ReadWriteDone(words.bytes(MOST_ARRIVED)?),
+        b"declined" => Call::Declined,
+        b"resume" => Call::Resume,
         b"transmit" => Call::Transmit {
             buffer: words.number(u64::MAX)?,
             length: words.number(u64::MAX)?,
@@ -167,7 +169,7 @@ mod tests {
         parse(text.as_bytes()).is_none()
     }
 
-    const EVERY_SORT: [&str; 34] = [
+    const EVERY_SORT: [&str; 36] = [
         "",
         "# a remark",
         "new 129 26",
@@ -177,6 +179,8 @@ mod tests {
         "fired",
         "read_write_done",
         "read_write_done 0 255",
+        "declined",
+        "resume",
         "transmit 18446744073709551615 160 125",
         "set_receive_buffer 3 129",
         "reset 0",
@@ -247,6 +251,9 @@ mod tests {
             "set_tx_power -",
             "set_tx_power --1",
             "read_write_done 256",
+            "declined 0",
+            "resume 0",
+            "decline",
             "pool",
             "pool 4095 1 2",
             "pool 4097",

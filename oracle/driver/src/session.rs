@@ -1,6 +1,8 @@
 //! One driver with its book, its area and its mark: performs a script line by line.
 
-use crate::action::Action;
+mod declining;
+
+use crate::action::{Action, Kind};
 use crate::answer::{Answer, Value};
 use crate::area::{AREA, CLIENT_BUFFERS, POOL};
 use crate::bench::Bench;
@@ -13,6 +15,7 @@ use crate::panics::caught;
 use crate::performer::{Performer, Stop};
 use crate::rf233::probe::Driver;
 use crate::view::View;
+use declining::Offer;
 
 /// The driver that is there before any `new`.
 const FIRST_LENGTH: usize = 129;
@@ -36,6 +39,9 @@ pub struct Session {
     mark: Option<Box<Mark>>,
     calls: u64,
     past_domain: bool,
+    /// Whether the SPI layer may decline as the Rust offers a transfer, and the last offer.
+    declining: bool,
+    offer: Option<Offer>,
     /// Whether a line was performed that is outside the domain: then nothing need agree.
     left: bool,
 }
@@ -54,6 +60,8 @@ impl Session {
             mark: None,
             calls: 0,
             past_domain,
+            declining: false,
+            offer: None,
             left: false,
         }
     }
@@ -78,7 +86,8 @@ impl Session {
         self.pass(domain::edge(&self.view, call))?;
         let (answer, value) = self.make(call)?;
         let driver = self.driver.as_ref().expect("a driver is in place");
-        let view = View::of(driver, self.bench, self.view.pool_length);
+        let mut view = View::of(driver, self.bench, self.view.pool_length);
+        view.waits = *call == Call::Declined;
         let before = std::mem::replace(&mut self.view, view);
         let (mut actions, transfer) = self.bench.log.take();
         let lost = self.vanished(call, &before, &mut actions);
@@ -173,8 +182,8 @@ impl Session {
             "the book finds a fault".into()
         } else if record != book.places {
             format!("the record is {record:?}, the book {:?}", book.places)
-        } else if self.view.under_way.is_some() != book.transfer.is_some() {
-            "record and book disagree about a transfer under way".into()
+        } else if self.transfer() != (book.transfer.map(|(kind, _, _)| kind), book.waiting) {
+            "record and book disagree about a transfer under way or waiting".into()
         } else if book.accepted != book.handed + book.dropped + with {
             format!("the book's counts do not add up with {with} buffers held")
         } else {
@@ -183,32 +192,44 @@ impl Session {
         Err(Stop::Disagreement(said))
     }
 
-    fn keep(&mut self) {
-        self.mark = Some(Box::new(Mark {
+    /// The kind of the transfer under way, and of the one that waits.
+    fn transfer(&self) -> (Option<Kind>, Option<Kind>) {
+        let kind = self.view.kind();
+        match self.view.waits {
+            true => (None, kind),
+            false => (kind, None),
+        }
+    }
+
+    fn standing(&self) -> Box<Mark> {
+        Box::new(Mark {
             view: self.view.clone(),
             book: self.book.clone(),
             area: self.bench.area.bytes(),
-        }));
+        })
+    }
+
+    /// Puts a driver in place that stands so. No slice of the pool may be out any more.
+    fn return_to(&mut self, mark: &Mark) {
+        self.bench.area.write(0, &mark.area);
+        self.driver = Some(mark.view.driver(self.bench));
+        self.view = mark.view.clone();
+        self.book = mark.book.clone();
     }
 
     /// Returns to the mark, or to the beginning where there is none.
     fn back(&mut self) {
         self.let_go();
-        match &self.mark {
-            Some(mark) => {
-                self.bench.area.write(0, &mark.area);
-                self.driver = Some(mark.view.driver(self.bench));
-                self.view = mark.view.clone();
-                self.book = mark.book.clone();
-            }
-            None => {
-                self.bench.area.write(0, &[0; AREA]);
-                let driver = calls::new(self.bench, FIRST_LENGTH, FIRST_CHANNEL);
-                self.view = View::of(&driver, self.bench, POOL);
-                self.driver = Some(driver);
-                self.book = Book::default();
-            }
+        if let Some(mark) = self.mark.take() {
+            self.return_to(&mark);
+            self.mark = Some(mark);
+            return;
         }
+        self.bench.area.write(0, &[0; AREA]);
+        let driver = calls::new(self.bench, FIRST_LENGTH, FIRST_CHANNEL);
+        self.view = View::of(&driver, self.bench, POOL);
+        self.driver = Some(driver);
+        self.book = Book::default();
     }
 }
 
@@ -217,20 +238,23 @@ impl Performer for Session {
         self.mark = None;
         self.calls = 0;
         self.left = false;
+        self.offer = None;
         self.back();
     }
 
     fn perform(&mut self, line: &Line) -> Result<Option<Outcome>, Stop> {
         match line {
-            Line::Passed(_) => {}
+            Line::Call(call) if self.declining => return self.call_declining(call).map(Some),
             Line::Call(call) => return self.call(call).map(Some),
-            Line::Pool { at, bytes } => {
-                let edge = domain::pool_edge(&self.view, *at, bytes.len());
-                self.pass(edge)?;
-                self.bench.area.write(*at, bytes);
-            }
+            Line::Passed(_) => return Ok(None),
+            _ => self.offer = None,
+        }
+        self.pass(domain::edge_around(&self.view, line))?;
+        match line {
+            Line::Passed(_) | Line::Call(_) => {}
+            Line::Pool { at, bytes } => self.bench.area.write(*at, bytes),
             Line::PoolLength(length) => self.view.pool_length = *length,
-            Line::Mark => self.keep(),
+            Line::Mark => self.mark = Some(self.standing()),
             Line::Back => self.back(),
         }
         Ok(None)

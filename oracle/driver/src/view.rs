@@ -3,17 +3,15 @@
 
 use crate::action::Kind;
 use crate::area::{Area, BUFFERS, CLIENT_BUFFERS};
-use crate::bench::{Bench, UnderWay};
-use crate::book::{Place, Places};
+use crate::bench::{Bench, PSDU_OFFSET, UnderWay};
+use crate::book::{Place, Places, origins};
 use crate::rf233::probe::{Driver, Image, Lease};
-
-/// Bytes of a frame transfer before the frame's own.
-const PSDU_OFFSET: usize = 2;
 
 /// The transfer under way, as plain data.
 #[derive(Clone, Debug)]
 pub struct Transferring {
     pub kind: Kind,
+    pub command: [u8; 2],
     pub write: Lease,
     pub read: Lease,
 }
@@ -23,6 +21,7 @@ impl Transferring {
         let read = transfer.read.as_ref();
         Transferring {
             kind: transfer.kind,
+            command: transfer.command,
             write: Lease::of(area, &transfer.write),
             read: Lease::of(area, read.expect("the driver reads in every transfer")),
         }
@@ -42,6 +41,7 @@ impl Transferring {
     fn under_way(&self, area: &'static Area) -> UnderWay {
         UnderWay {
             kind: self.kind,
+            command: self.command,
             write: self.write.slice(area),
             read: Some(self.read.slice(area)),
         }
@@ -52,6 +52,9 @@ impl Transferring {
 pub struct View {
     pub image: Image,
     pub under_way: Option<Transferring>,
+    /// Whether the transfer under way was declined and not yet offered again. The Rust never
+    /// hears of it; its buffers count as in their places (request 2026-05).
+    pub waits: bool,
     pub pool_length: usize,
 }
 
@@ -64,6 +67,7 @@ impl View {
         View {
             image: Image::of(driver, bench.area),
             under_way,
+            waits: false,
             pool_length,
         }
     }
@@ -81,7 +85,7 @@ impl View {
         self.image.state()
     }
 
-    /// The kind of the transfer under way.
+    /// The kind of the transfer under way, a waiting one too.
     pub fn kind(&self) -> Option<Kind> {
         self.under_way.as_ref().map(|transfer| transfer.kind)
     }
@@ -129,14 +133,18 @@ impl View {
     fn places(&self) -> impl Iterator<Item = (&Lease, Place)> {
         let cells = &self.image.cells;
         let under_way = self.under_way.as_ref();
+        let (write, read) = match self.kind() {
+            Some(kind) if self.waits => origins(kind),
+            _ => (Place::UnderWay, Place::UnderWay),
+        };
         [
             (cells.tx_buf.as_ref(), Place::Transmit),
             (cells.rx_buf.as_ref(), Place::Receive),
             (cells.spi_tx.as_ref(), Place::Own),
             (cells.spi_rx.as_ref(), Place::Own),
             (cells.spi_buf.as_ref(), Place::Own),
-            (under_way.map(|transfer| &transfer.write), Place::UnderWay),
-            (under_way.map(|transfer| &transfer.read), Place::UnderWay),
+            (under_way.map(|transfer| &transfer.write), write),
+            (under_way.map(|transfer| &transfer.read), read),
         ]
         .into_iter()
         .filter_map(|(lease, place)| Some((lease?, place)))

@@ -211,3 +211,59 @@ fn past_it_the_rust_announces_the_second_length_byte() {
         assert!(output.ends_with("\npanic attempt to subtract with overflow\n"));
     }
 }
+
+/// What a run yields whose SPI layer may decline.
+fn declining(script: &str) -> (End, String) {
+    let mut output = Vec::new();
+    let end = run(&mut Session::declining(), script.as_bytes(), &mut output);
+    let output = String::from_utf8(output).expect("the output is ASCII");
+    (end.expect("memory does not fail"), output)
+}
+
+#[test]
+fn the_rust_loses_both_buffers_of_a_declined_transfer_and_never_goes_on() {
+    let reading = length_read();
+    let writing = frame_write();
+    let stop = ready() + "stop\n";
+    for (script, lost, state) in [
+        ("start\n", "lost 16\nlost 17\n", 0),
+        (&stop, "lost 16\nlost 17\n", 30),
+        (&reading, "lost 2\nlost 18\n", 63),
+        (&writing, "lost 3\nlost 18\n", 34),
+    ] {
+        let declined = format!("{script}declined\n");
+        let (end, output) = declining(&declined);
+        assert_eq!(end, End::Complete);
+        let said = format!(" 0 {state} {state}\n{lost}book ");
+        assert!(output.contains(&said), "{output}");
+        // Whatever is called, no transfer is offered any more, and none can end.
+        let calls = "fired\nstart\nstop\nconfig_commit\nreset 1\ntransmit 5 160 5\nfired\n";
+        let (end, longer) = declining(&(declined.clone() + calls));
+        assert_eq!(end, End::Complete);
+        let transfers = |output: &str| output.matches("\ntransfer ").count();
+        assert_eq!(transfers(&longer), transfers(&output), "{longer}");
+        let (end, _) = declining(&(declined.clone() + "read_write_done 0 0\n"));
+        assert_eq!(end, End::Outside);
+        let (end, _) = declining(&(declined + "resume\n"));
+        assert_eq!(end, End::Outside);
+    }
+}
+
+#[test]
+fn the_rust_is_told_of_a_decline_only_as_it_offers_the_transfer() {
+    for script in [
+        "declined\n",
+        "start\nfired\ndeclined\n",
+        "start\nback\ndeclined\n",
+        "start\npool 0 1\ndeclined\n",
+    ] {
+        let (end, output) = declining(script);
+        assert_eq!(end, End::Outside);
+        let said =
+            "outside the domain: the Rust is told of a decline only as it offers the transfer\n";
+        assert!(output.ends_with(said), "{output}");
+    }
+    // Where nothing is declined, such a run is as any other.
+    let script = length_read() + "mark\nread_write_done 0 20\nback\nread_write_done 0 11\n";
+    assert_eq!(declining(&script), answered(&script, true));
+}

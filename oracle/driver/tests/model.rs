@@ -1,16 +1,20 @@
 //! The model by itself: along scripts inside the domain every refused call is tried at every
 //! line; the edges of the refusals; the line of receive buffers of request 2026-07; the
-//! received length of request 2026-13; and what holds of every run, however far it leaves the
+//! received length of request 2026-13; the declined transfers of request 2026-05; and what holds of every run, however far it leaves the
 //! domain.
 
+#[path = "model/declined.rs"]
+mod declined;
 #[path = "model/every_notice.rs"]
 mod every_notice;
+#[path = "model/every_resume.rs"]
+mod every_resume;
 #[path = "model/received_length.rs"]
 mod received_length;
 
 use oracle::answer::Answer;
 use oracle::domain;
-use oracle::generator::{self, Wish, beyond};
+use oracle::generator::{self, Wish, beyond, pairs};
 use oracle::line::{Call, Line};
 use oracle::model::{self, Standing, described};
 use oracle::performer::Performer;
@@ -48,7 +52,9 @@ const FRAMES: [u64; 13] = [
     u64::MAX - 1,
     u64::MAX,
 ];
-/// Lengths of the pool with which six calls are refused.
+/// The answers that a call may get, and numbers that are none.
+const ANSWERS: usize = Answer::Nothing as usize + 1;
+/// Lengths of the pool with which eight calls are refused.
 const WRONG_POOLS: [usize; 4] = [0, 3039, 3041, 4096];
 
 /// Every call that is refused somewhere, with what decides about it at its borders.
@@ -58,6 +64,8 @@ fn candidates(standing: &Standing) -> Vec<Call> {
         Call::Stop,
         Call::ConfigCommit,
         Call::Fired,
+        Call::Declined,
+        Call::Resume,
         Call::Reset { configured: false },
     ];
     calls.extend([0, 10, 27, 255].map(Call::SetChannel));
@@ -119,7 +127,7 @@ fn refused(model: &mut model::Session, call: &Call, answer: Answer) {
 }
 
 /// Tries every such call that document 01 refuses where the Rust stands so.
-fn refused_here(model: &model::Session, view: &View, counts: &mut [u64; 16]) {
+fn refused_here(model: &model::Session, view: &View, counts: &mut [u64; ANSWERS]) {
     let mut tried = model.clone();
     for call in candidates(model.now()) {
         let answer = domain::answer(view, &call);
@@ -134,11 +142,21 @@ fn refused_here(model: &model::Session, view: &View, counts: &mut [u64; 16]) {
     }
 }
 
+/// The same where the transfer under way was declined.
+fn refused_while_it_waits(model: &model::Session, view: &View, counts: &mut [u64; ANSWERS]) {
+    let mut waits = model.clone();
+    let declined = Line::Call(Call::Declined);
+    waits.perform(&declined).expect("the model goes on");
+    let mut view = view.clone();
+    view.waits = true;
+    refused_here(&waits, &view, counts);
+}
+
 #[test]
 fn every_refused_call_is_refused_and_changes_nothing() {
     let mut session = Session::new(false);
     let mut model = model::Session::default();
-    let mut counts = [0; 16];
+    let mut counts = [0; ANSWERS];
     for seed in 0..8 {
         let wish = Wish {
             seed,
@@ -148,6 +166,9 @@ fn every_refused_call_is_refused_and_changes_nothing() {
         model.begin();
         let lines = generator::script(&mut session, wish, |view, line, _| {
             refused_here(&model, view, &mut counts);
+            if pairs::may_stand(view) {
+                refused_while_it_waits(&model, view, &mut counts);
+            }
             for length in WRONG_POOLS {
                 let mut other = model.clone();
                 let shorter = Line::PoolLength(length);
@@ -160,11 +181,12 @@ fn every_refused_call_is_refused_and_changes_nothing() {
         });
         lines.unwrap_or_else(|stop| panic!("seed {seed}: {stop:?}"));
     }
-    // All but FULL, which the Rust's one receive place never gives, and NEW.
+    // All but FULL, which the Rust's one receive place never gives, and NEW; 16 to 21 are no
+    // answers of calls.
     for (answer, count) in counts.iter().enumerate() {
         assert_eq!(
             *count > 0,
-            !matches!(answer, 0 | 10 | 15),
+            !matches!(answer, 0 | 10 | 15..=21),
             "{answer}: {count}"
         );
     }
@@ -257,7 +279,7 @@ fn numbers_are_not_cut_before_they_are_compared() {
 }
 
 #[test]
-fn the_pools_length_guards_six_calls_and_comes_first() {
+fn the_pools_length_guards_eight_calls_and_comes_first() {
     for length in [0, 1, 3039, 3041, 4096] {
         for call in [
             "transmit 99 999 18446744073709551615",
@@ -266,6 +288,8 @@ fn the_pools_length_guards_six_calls_and_comes_first() {
             "stop",
             "config_commit",
             "fired",
+            "declined",
+            "resume",
         ] {
             let script = format!("{READY}stop\npool_length {length}\n{call}\n");
             assert_eq!(last(&script), 12, "{call}");
@@ -476,7 +500,8 @@ fn what_holds_of_every_run_beyond_the_domain() {
             book.handed + book.dropped + with,
             "seed {seed}"
         );
-        let kinds = (book.transfer.map(|(kind, _, _)| kind), driver.kind());
-        assert_eq!(kinds.0, kinds.1, "seed {seed}");
+        let waits = driver.waiting.as_ref().map(|waiting| waiting.kind);
+        let kinds = (book.transfer.map(|(kind, _, _)| kind), book.waiting);
+        assert_eq!(kinds, (driver.kind(), waits), "seed {seed}");
     }
 }

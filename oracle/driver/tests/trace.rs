@@ -7,6 +7,7 @@ use std::path::Path;
 use oracle::action::Action;
 use oracle::generator::{Wish, script};
 use oracle::line::text;
+use oracle::model;
 use oracle::session::Session;
 use oracle::trace::listing::listed;
 use oracle::trace::reader::{blocks, read};
@@ -190,7 +191,10 @@ fn every_case_leaves_the_records_that_its_expected_output_asks_for() {
             continue;
         }
         let expected = expected(&script, &path.with_extension("expected"));
-        let mut records = records(&trace(&script).0);
+        let mut records = match script.starts_with("# beyond the domain") {
+            false => records(&trace(&script).0),
+            true => records(&traced(&mut model::Session::default(), &script).expect("a case")),
+        };
         records.iter_mut().for_each(|record| record[14] = 0);
         assert_eq!(records, expected, "{}", path.display());
         compared += records.len();
@@ -236,8 +240,8 @@ fn numbers(words: &[&str]) -> Vec<u8> {
 /// A record with its event, states, answer and arrived bytes; event 0 for no event.
 fn begun(call: &str, answer: &[u8]) -> Record {
     let words: Vec<&str> = call.split(' ').collect();
-    let names =
-        "- read_write_done start stop config_commit transmit set_receive_buffer fired reset";
+    let names = "- read_write_done start stop config_commit transmit set_receive_buffer fired reset \
+         declined resume";
     let event = names.split(' ').position(|name| name == words[0]);
     let mut record = [0; 16];
     record[0] = event.unwrap_or(0) as u8;

@@ -44,7 +44,7 @@ impl Judge for Model {
 }
 
 fn main() -> ExitCode {
-    let comparison = Comparison::of_program(USAGE, |_| false);
+    let comparison = Comparison::of_program(USAGE, |_, _| Ok(false));
     command::exit(
         "beyond",
         comparison.and_then(|comparison| comparison.same(&mut Model::default())),

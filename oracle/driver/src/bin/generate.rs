@@ -5,14 +5,15 @@ use std::io::{self, Write};
 use std::process::ExitCode;
 
 use oracle::coverage::Coverage;
-use oracle::generator::{Wish, beyond, script};
+use oracle::generator::{Wish, beyond, script, script_with_pairs};
 use oracle::line::text;
 use oracle::model;
 use oracle::options::Options;
 use oracle::progress::Progress;
 use oracle::session::Session;
 
-const USAGE: &str = "usage: generate --seed S --lines N [--without-lending | --beyond]
+const USAGE: &str = "usage: generate --seed S --lines N [--without-lending] [--pairs N]
+       generate --seed S --lines N --beyond
        generate --coverage --seeds N --lines M [--without-lending]";
 
 struct Arguments {
@@ -20,6 +21,8 @@ struct Arguments {
     beyond: bool,
     seeds: u64,
     wish: Wish,
+    /// How many times in a hundred a pair of `declined` and `resume` stands where it may.
+    density: u64,
 }
 
 fn main() -> ExitCode {
@@ -29,7 +32,7 @@ fn main() -> ExitCode {
         } else if arguments.beyond {
             printed_beyond(arguments.wish)
         } else {
-            printed(arguments.wish)
+            printed(arguments.wish, arguments.density)
         }
     });
     match done {
@@ -52,12 +55,14 @@ fn arguments() -> Result<Arguments, String> {
             lines: 500,
             without_lending: false,
         },
+        density: 0,
     };
     while let Some(option) = options.option() {
         match option.as_str() {
             "--coverage" => arguments.coverage = true,
             "--beyond" => arguments.beyond = true,
             "--without-lending" => arguments.wish.without_lending = true,
+            "--pairs" => arguments.density = options.number(&option)?,
             "--seed" => arguments.wish.seed = options.number(&option)?,
             "--seeds" => arguments.seeds = options.number(&option)?,
             "--lines" => arguments.wish.lines = options.number(&option)? as usize,
@@ -70,10 +75,10 @@ fn arguments() -> Result<Arguments, String> {
     }
 }
 
-fn printed(wish: Wish) -> Result<(), String> {
+fn printed(wish: Wish, density: u64) -> Result<(), String> {
     let mut session = Session::new(false);
-    let lines = script(&mut session, wish, |_, _, _| {});
-    let lines = lines.map_err(|stop| format!("seed {}: {stop:?}", wish.seed))?;
+    let made = script_with_pairs(&mut session, wish, density, |_, _, _| {});
+    let (lines, _) = made.map_err(|stop| format!("seed {}: {stop:?}", wish.seed))?;
     shown(&text(&lines))
 }
 

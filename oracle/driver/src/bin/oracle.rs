@@ -1,4 +1,4 @@
-//! `oracle [--past-domain | trace] < script`: the Rust driver's answers to a script of
+//! `oracle [--past-domain | --declining | trace] < script`: the Rust driver's answers to a script of
 //! calls, or the trace blocks that the calls leave.
 
 use std::process::ExitCode;
@@ -6,7 +6,7 @@ use std::process::ExitCode;
 use oracle::program::{self, Asked};
 use oracle::session::Session;
 
-const USAGE: &str = "usage: oracle [--past-domain] < script
+const USAGE: &str = "usage: oracle [--past-domain | --declining] < script
        oracle trace < script > blocks";
 
 fn main() -> ExitCode {
@@ -15,6 +15,7 @@ fn main() -> ExitCode {
     let asked = match arguments.as_slice() {
         [] => Some(Asked::Answers(Session::new(false))),
         ["--past-domain"] => Some(Asked::Answers(Session::new(true))),
+        ["--declining"] => Some(Asked::Answers(Session::declining())),
         ["trace"] => Some(Asked::Trace(Session::new(false))),
         _ => None,
     };

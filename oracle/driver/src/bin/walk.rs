@@ -15,13 +15,14 @@ use oracle::shrink::shrink;
 use oracle::walk::{Batch, Bounds, Sample, Walk};
 
 const USAGE: &str = "usage: walk [--limit N] [--few-listeners] [--without-read-out]
-            [--all-pairs] [--keep FILE] [--sample N FILE] [COMMAND...]
+            [--all-pairs] [--pairs] [--keep FILE] [--sample N FILE] [COMMAND...]
   COMMAND reads a script on its standard input and writes what the calls yield; without
   one the walk is only counted.
   --limit N: at most N control states.
   --few-listeners: the listeners are all present or all absent.
   --without-read-out: no step is followed by what shows the driver's memory.
   --all-pairs: every status comes with every result, in all states.
+  --pairs: every completion comes after its transfer was declined and resumed.
   --keep FILE: the script that shows a difference is written there.
   --sample N FILE: the next steps of one control state in N are written there, as a
   script.";
@@ -49,6 +50,7 @@ fn arguments() -> Result<Arguments, String> {
         few_listeners: false,
         without_read_out: false,
         all_pairs: false,
+        pairs: false,
     };
     while let Some(option) = options.option() {
         match option.as_str() {
@@ -56,6 +58,7 @@ fn arguments() -> Result<Arguments, String> {
             "--few-listeners" => bounds.few_listeners = true,
             "--without-read-out" => bounds.without_read_out = true,
             "--all-pairs" => bounds.all_pairs = true,
+            "--pairs" => bounds.pairs = true,
             "--keep" => keep = Some(options.word(&option)?),
             "--sample" => sample = Some((options.number(&option)?, options.word(&option)?)),
             _ => return Err(format!("no option {option}\n{USAGE}")),

@@ -1,7 +1,7 @@
 //! The records of real runs, sorted by what their ranges depend on, and whole blocks made
 //! of them.
 
-use crate::generator::{Wish, script};
+use crate::generator::{Wish, script_with_pairs};
 use crate::line::Line;
 use crate::performer::Performer;
 use crate::random::Random;
@@ -13,6 +13,8 @@ use crate::trace::{Block, RECORDS, Record};
 /// Generated scripts that are run, and lines of each.
 const SCRIPTS: u64 = 60;
 const LINES: usize = 500;
+/// Times in a hundred that a transfer is declined and resumed where it may be.
+const PAIRS: u64 = 4;
 
 pub struct Bases {
     /// All records, as they follow each other.
@@ -32,7 +34,7 @@ impl Bases {
             let of_sort = all.iter().filter(|record| record[byte] == value);
             of_sort.copied().collect()
         };
-        let events = (1..=8).map(|event| sorted(EVENT, event));
+        let events = (1..=10).map(|event| sorted(EVENT, event));
         let notices = (0..=5).map(|notice| sorted(NOTICE, notice));
         let transfers = (0..=4).map(|transfer| sorted(TRANSFER, transfer));
         let sorts: Vec<_> = events.chain(notices).chain(transfers).collect();
@@ -86,8 +88,8 @@ fn records(session: &mut Session, seed: u64, all: &mut Vec<Record>) -> Result<()
         lines: LINES,
         without_lending: false,
     };
-    let script = script(session, wish, |_, _, _| {});
-    let script = script.map_err(|stop| format!("seed {seed}: {stop:?}"))?;
+    let script = script_with_pairs(session, wish, PAIRS, |_, _, _| {});
+    let (script, _) = script.map_err(|stop| format!("seed {seed}: {stop:?}"))?;
     session.begin();
     for line in script {
         let outcome = session.perform(&line);

@@ -31,14 +31,14 @@ const BEFORE_TAIL: u64 = 3;
 
 /// How often a block of each kind comes, while the systematic ones last.
 const WEIGHTS: &[(u64, Kind)] = &[
-    (46, Kind::RecordByte),
-    (10, Kind::Whole),
-    (9, Kind::OneBit),
-    (8, Kind::TwoBits),
+    (50, Kind::RecordByte),
+    (9, Kind::Whole),
+    (8, Kind::OneBit),
+    (7, Kind::TwoBits),
     (6, Kind::TwoBytes),
     (5, Kind::Count),
     (5, Kind::Nine),
-    (5, Kind::Unused),
+    (4, Kind::Unused),
     (4, Kind::Length),
     (2, Kind::Joined),
 ];

@@ -8,8 +8,8 @@ use crate::trace::record::LENGTHS;
 use crate::trace::{BLOCK, Block, COUNT, FIRST_RECORD, RECORD, RECORDS, ZEROS};
 
 /// Values at which some range of a record's bytes ends, and those just past it.
-const BORDERS: [u8; 18] = [
-    0, 1, 2, 3, 4, 5, 6, 8, 9, 14, 15, 16, 68, 69, 159, 160, 161, 255,
+const BORDERS: [u8; 21] = [
+    0, 1, 2, 3, 4, 5, 6, 10, 11, 14, 15, 16, 21, 22, 23, 68, 69, 159, 160, 161, 255,
 ];
 /// Lengths that are none, and the shortest and longest that are.
 const LENGTH_BORDERS: [u8; 4] = [1, 2, 160, 161];

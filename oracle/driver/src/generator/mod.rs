@@ -5,6 +5,7 @@ mod around;
 mod arrived;
 pub mod beyond;
 mod bytes;
+pub mod pairs;
 mod plain;
 mod proposals;
 
@@ -52,6 +53,22 @@ pub fn script(
         lines.push(line);
     }
     Ok(lines)
+}
+
+/// Makes one script and puts pairs of `declined` and `resume` into it; says how many.
+pub fn script_with_pairs(
+    session: &mut Session,
+    wish: Wish,
+    density: u64,
+    mut watch: impl FnMut(&View, &Line, Option<&Outcome>),
+) -> Result<(Vec<Line>, u64), Stop> {
+    let mut may_stand = Vec::with_capacity(wish.lines);
+    let lines = script(session, wish, |before, line, outcome| {
+        may_stand.push(pairs::may_stand(before));
+        watch(before, line, outcome);
+    })?;
+    let lines = lines.into_iter().zip(may_stand).collect();
+    Ok(pairs::put_in(lines, wish.seed, density))
 }
 
 struct Generator<'a> {

@@ -63,6 +63,8 @@ impl Step<'_> {
             Call::ConfigCommit => self.config_commit(),
             Call::Fired => self.handle_interrupt(),
             Call::ReadWriteDone(ref bytes) => self.read_write_done(bytes),
+            Call::Declined => self.declined(),
+            Call::Resume => self.resume(),
             Call::Transmit { buffer, length, n } => self.transmit(lent(buffer, length), n as u8),
             Call::SetReceiveBuffer { buffer, length } => self.lend(lent(buffer, length)),
             Call::Reset { .. } => self.reset(),
@@ -93,14 +95,14 @@ impl Step<'_> {
         }
     }
 
-    /// The commit starts in READY; during a transfer, as everywhere else, it only waits
-    /// (request 2026-02).
+    /// The commit starts in READY; during a transfer, a waiting one too, as everywhere else, it
+    /// only waits (requests 2026-02 and 2026-05).
     fn config_commit(&mut self) {
         if self.driver.flags.config_pending {
             return;
         }
         self.driver.flags.config_pending = true;
-        if self.driver.state == READY && self.driver.under_way.is_none() {
+        if self.driver.state == READY && !self.driver.occupied() {
             self.start_commit();
         }
     }

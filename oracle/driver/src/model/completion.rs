@@ -49,21 +49,8 @@ impl Step<'_> {
     /// Both buffers go back where they came from. A frame transfer's state becomes its
     /// DONE state, so that its buffers are put back once.
     fn return_buffers(&mut self, transfer: &UnderWay) {
+        self.put_back(transfer);
         let driver = &mut *self.driver;
-        match transfer.what {
-            What::RegisterRead | What::RegisterWrite => {
-                driver.own.spi_tx = true;
-                driver.own.spi_rx = true;
-            }
-            What::FrameRead(lent) => {
-                driver.own.spi_buf = true;
-                driver.line.insert(0, lent);
-            }
-            What::FrameWrite(lent) => {
-                driver.own.spi_buf = true;
-                driver.tx_buf = Some(lent);
-            }
-        }
         driver.state = match (transfer.what, driver.state) {
             (What::FrameRead(_), RX_READING_FRAME_LEN) => RX_READING_FRAME_LEN_DONE,
             (What::FrameRead(_), RX_READING_FRAME) => RX_READING_FRAME_DONE,

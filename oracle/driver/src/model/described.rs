@@ -1,12 +1,14 @@
 //! The driver values that refusal 12 describes, clause by clause as the readings have it,
-//! with request 2026-07's for the line and 2026-13's for the held length. No driver that came
-//! from a new one is such a value, so through the calls only the pool's length can show.
+//! with request 2026-07's for the line, 2026-13's for the held length and 2026-05's for a
+//! transfer that waits. No driver that came from a new one is such a value, so through the calls
+//! only the pool's length can show.
 
 use std::ops::RangeInclusive;
 
-use super::driver::{Driver, Lent, MOST_RECEIVE, UnderWay, What};
+use super::driver::{Driver, Lent, MOST_RECEIVE, What};
 use super::receiving::FRAME_LENGTHS;
 use super::states::*;
+use crate::action::Kind;
 use crate::area::{BUFFER, CLIENT_BUFFERS, SPI_BUF, SPI_RX, SPI_TX};
 
 const SPI_BUF_LENGTHS: RangeInclusive<usize> = 129..=BUFFER;
@@ -22,6 +24,7 @@ pub fn described(driver: &Driver) -> bool {
     recorded_wrongly(driver)
         || wrong_lengths(driver)
         || wrong_transfer(driver)
+        || waits_without_buffers(driver)
         || buffer_missing(driver)
         || wrong_held_length(driver)
 }
@@ -71,27 +74,52 @@ fn wrong_transfer(driver: &Driver) -> bool {
         driver.state,
         TX_WRITING_FRAME | RX_READING_FRAME_LEN | RX_READING_FRAME
     );
-    match &driver.under_way {
-        Some(UnderWay {
-            what: What::FrameRead(lent),
-            write_length,
-            read_length,
-        }) => {
-            let state = matches!(driver.state, RX_READING_FRAME_LEN | RX_READING_FRAME);
-            let lengths = (driver.spi_buf.present, lent.length);
-            !state || driver.flags.interrupt_handling || (*write_length, *read_length) != lengths
+    let Some((kind, lengths)) = transfer(driver) else {
+        return needed;
+    };
+    let (state, table) = match kind {
+        Kind::FrameRead => (
+            matches!(driver.state, RX_READING_FRAME_LEN | RX_READING_FRAME),
+            read_into(driver).map(|lent| (driver.spi_buf.present, lent.length)),
+        ),
+        Kind::FrameWrite => {
+            let write_length = PSDU_OFFSET + usize::from(driver.tx_len);
+            let lengths = (write_length, driver.spi_buf.present);
+            (driver.state == TX_WRITING_FRAME, Some(lengths))
         }
-        Some(UnderWay {
-            what: What::FrameWrite(_),
-            write_length,
-            read_length,
-        }) => {
-            let state = driver.state == TX_WRITING_FRAME;
-            let n = usize::from(driver.tx_len);
-            let lengths = (PSDU_OFFSET + n, driver.spi_buf.present);
-            !state || driver.flags.interrupt_handling || (*write_length, *read_length) != lengths
-        }
-        _ => needed,
+        Kind::RegisterRead | Kind::RegisterWrite => return needed,
+    };
+    !state || driver.flags.interrupt_handling || table != Some(lengths)
+}
+
+/// The kind and the two lengths of the transfer under way or of the one that waits.
+fn transfer(driver: &Driver) -> Option<(Kind, (usize, usize))> {
+    let under_way = driver.under_way.as_ref().map(|transfer| {
+        let lengths = (transfer.write_length, transfer.read_length);
+        (transfer.what.kind(), lengths)
+    });
+    under_way.or_else(|| {
+        let transfer = driver.waiting.as_ref()?;
+        Some((transfer.kind, (transfer.write_length, transfer.read_length)))
+    })
+}
+
+/// The receive buffer of a frame read: while it waits, the front of the line.
+fn read_into(driver: &Driver) -> Option<Lent> {
+    match driver.under_way.as_ref().map(|under_way| under_way.what) {
+        Some(What::FrameRead(lent)) => Some(lent),
+        _ => driver.line.first().copied(),
+    }
+}
+
+/// A transfer that waits, one of whose buffers is not in its place.
+fn waits_without_buffers(driver: &Driver) -> bool {
+    let own = &driver.own;
+    match driver.waiting.as_ref().map(|waiting| waiting.kind) {
+        None => false,
+        Some(Kind::RegisterRead | Kind::RegisterWrite) => !(own.spi_tx && own.spi_rx),
+        Some(Kind::FrameRead) => !own.spi_buf || driver.line.is_empty(),
+        Some(Kind::FrameWrite) => !own.spi_buf || driver.tx_buf.is_none(),
     }
 }
 
@@ -114,9 +142,12 @@ fn wrong_held_length(driver: &Driver) -> bool {
 
 #[cfg(test)]
 mod tests {
-    use super::described;
-    use crate::model::driver::{Driver, Lent, UnderWay, What};
+    use super::{described, waits_without_buffers};
+    use crate::action::Kind;
+    use crate::model::driver::{Driver, Lent, UnderWay, Waiting, What};
     use crate::model::states::*;
+
+    type Change = fn(&mut Driver);
 
     const FIRST: Lent = Lent {
         buffer: 1,
@@ -130,6 +161,16 @@ mod tests {
     fn transfer(what: What, write_length: usize, read_length: usize) -> Option<UnderWay> {
         Some(UnderWay {
             what,
+            command: [0, 0],
+            write_length,
+            read_length,
+        })
+    }
+
+    fn waiting(kind: Kind, write_length: usize, read_length: usize) -> Option<Waiting> {
+        Some(Waiting {
+            kind,
+            command: [0, 0],
             write_length,
             read_length,
         })
@@ -190,6 +231,39 @@ mod tests {
         driver
     }
 
+    /// With the frame to be written declined.
+    fn waits_to_write() -> Driver {
+        let mut driver = ready();
+        driver.state = TX_WRITING_FRAME;
+        driver.waiting = waiting(Kind::FrameWrite, 12, 140);
+        driver
+    }
+
+    /// With the length read declined.
+    fn waits_to_read() -> Driver {
+        let mut driver = ready();
+        driver.state = RX_READING_FRAME_LEN;
+        driver.spi_buf.present = 2;
+        driver.waiting = waiting(Kind::FrameRead, 2, 129);
+        driver
+    }
+
+    /// With the frame read declined.
+    fn waits_to_read_out() -> Driver {
+        let mut driver = waits_to_read();
+        driver.state = RX_READING_FRAME;
+        driver.spi_buf.present = 22;
+        driver.waiting = waiting(Kind::FrameRead, 22, 129);
+        driver
+    }
+
+    /// With a register transfer declined.
+    fn waits_for_a_register() -> Driver {
+        let mut driver = ready();
+        driver.waiting = waiting(Kind::RegisterWrite, 2, 2);
+        driver
+    }
+
     #[test]
     fn what_calls_lead_to_is_not_described() {
         for driver in [
@@ -199,6 +273,10 @@ mod tests {
             reading(),
             reading_out(),
             with_register(ready()),
+            waits_to_write(),
+            waits_to_read(),
+            waits_to_read_out(),
+            waits_for_a_register(),
         ] {
             assert!(!described(&driver), "{driver:?}");
         }
@@ -206,10 +284,25 @@ mod tests {
         four.line
             .extend([4, 5].map(|buffer| Lent { buffer, ..FIRST }));
         assert!(!described(&four));
+        // One of the four is that of the waiting frame read.
+        let mut waits = waits_to_read();
+        waits
+            .line
+            .extend([4, 5].map(|buffer| Lent { buffer, ..FIRST }));
+        assert!(!described(&waits));
+        // While a register transfer waits, each state without a frame transfer will do.
+        for state in (0..=68).filter(|state| ![34, 63, 65].contains(state)) {
+            for handling in [false, true] {
+                let mut driver = waits_for_a_register();
+                driver.state = state;
+                driver.flags.interrupt_handling = handling;
+                assert!(!described(&driver), "{state}");
+            }
+        }
     }
 
     /// Changes that make a described driver value of one that is not.
-    fn all_described(driver: fn() -> Driver, changes: &[fn(&mut Driver)]) {
+    fn all_described(driver: fn() -> Driver, changes: &[Change]) {
         for (place, change) in changes.iter().enumerate() {
             let mut driver = driver();
             change(&mut driver);
@@ -296,9 +389,11 @@ mod tests {
             (128, true),
             (255, true),
         ] {
-            assert_eq!(described_in(reading_out(), 65, held_length), wrong);
+            for driver in [reading_out(), waits_to_read_out()] {
+                assert_eq!(described_in(driver, 65, held_length), wrong);
+            }
             for state in [66, 67, 68] {
-                for driver in [ready(), with_register(ready())] {
+                for driver in [ready(), with_register(ready()), waits_for_a_register()] {
                     let said = described_in(driver, state, held_length);
                     assert_eq!(said, wrong, "{held_length} in {state}");
                 }
@@ -310,20 +405,22 @@ mod tests {
     fn elsewhere_any_held_length_will_do() {
         for held_length in 0..=255 {
             for state in 0..=64 {
-                let driver = match state {
-                    34 => writing(),
-                    63 => reading(),
-                    _ => ready(),
+                let drivers = match state {
+                    34 => [writing(), waits_to_write()],
+                    63 => [reading(), waits_to_read()],
+                    _ => [ready(), waits_for_a_register()],
                 };
-                let said = described_in(driver, state, held_length);
-                assert!(!said, "{held_length} in {state}");
+                for driver in drivers {
+                    let said = described_in(driver, state, held_length);
+                    assert!(!said, "{held_length} in {state}");
+                }
             }
         }
     }
 
     #[test]
     fn each_clause_during_a_frame_transfer() {
-        let both: &[fn(&mut Driver)] = &[
+        let both: &[Change] = &[
             |driver| driver.state = READY,
             |driver| driver.flags.interrupt_handling = true,
             |driver| driver.spi_buf.present = 3,
@@ -355,5 +452,75 @@ mod tests {
                 |driver| driver.line[0] = SECOND,
             ],
         );
+    }
+
+    #[test]
+    fn each_clause_while_a_frame_transfer_waits() {
+        let both: &[Change] = &[
+            |driver| driver.state = READY,
+            |driver| driver.flags.interrupt_handling = true,
+            |driver| driver.spi_buf.present = 3,
+            |driver| driver.own.spi_buf = false,
+            |driver| driver.waiting = None,
+            |driver| driver.waiting = waiting(Kind::RegisterRead, 2, 2),
+            |driver| driver.waiting.as_mut().unwrap().write_length += 1,
+            |driver| driver.waiting.as_mut().unwrap().read_length -= 1,
+        ];
+        all_described(waits_to_write, both);
+        all_described(waits_to_read, both);
+        all_described(waits_to_read_out, both);
+        all_described(
+            waits_to_write,
+            &[
+                |driver| driver.state = RX_READING_FRAME,
+                |driver| driver.tx_buf = None,
+                |driver| driver.tx_len = 11,
+            ],
+        );
+        all_described(
+            waits_to_read,
+            &[
+                |driver| driver.state = TX_WRITING_FRAME,
+                |driver| driver.line.clear(),
+                |driver| driver.line[0].length = 130,
+                |driver| {
+                    driver
+                        .line
+                        .extend([5, 6, 7].map(|buffer| Lent { buffer, ..FIRST }))
+                },
+            ],
+        );
+    }
+
+    #[test]
+    fn each_clause_while_a_register_transfer_waits() {
+        all_described(
+            waits_for_a_register,
+            &[
+                |driver| driver.own.spi_tx = false,
+                |driver| driver.own.spi_rx = false,
+                |driver| driver.state = TX_WRITING_FRAME,
+                |driver| driver.state = RX_READING_FRAME_LEN,
+                |driver| (driver.state, driver.tx_buf) = (TX_STATUS_PRECHECK1, None),
+            ],
+        );
+    }
+
+    #[test]
+    fn the_clause_of_a_waiting_transfers_buffers_by_itself() {
+        let missing: [(fn() -> Driver, Change); 6] = [
+            (waits_for_a_register, |driver| driver.own.spi_tx = false),
+            (waits_for_a_register, |driver| driver.own.spi_rx = false),
+            (waits_to_read, |driver| driver.own.spi_buf = false),
+            (waits_to_read, |driver| driver.line.clear()),
+            (waits_to_write, |driver| driver.own.spi_buf = false),
+            (waits_to_write, |driver| driver.tx_buf = None),
+        ];
+        for (driver, change) in missing {
+            let mut driver = driver();
+            assert!(!waits_without_buffers(&driver));
+            change(&mut driver);
+            assert!(waits_without_buffers(&driver), "{driver:?}");
+        }
     }
 }

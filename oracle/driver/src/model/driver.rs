@@ -26,9 +26,11 @@ pub struct Driver {
     pub line: Vec<Lent>,
     pub reception: Reception,
     pub under_way: Option<UnderWay>,
+    pub waiting: Option<Waiting>,
 }
 
-/// The driver's yes-or-no fields; that a transfer is under way is `under_way`.
+/// The driver's yes-or-no fields; that a transfer is under way is `under_way`, that one waits
+/// `waiting`.
 #[derive(Clone, Debug, Default, PartialEq, Eq)]
 pub struct Flags {
     pub radio_on: bool,
@@ -96,6 +98,19 @@ pub struct Lent {
 #[derive(Clone, Debug, PartialEq, Eq)]
 pub struct UnderWay {
     pub what: What,
+    /// The first two bytes as they were first offered.
+    pub command: [u8; 2],
+    pub write_length: usize,
+    pub read_length: usize,
+}
+
+/// A transfer that the SPI layer declined (request 2026-05). Its buffers are in their places: a
+/// frame read's is the front of the line, a frame write's the one at the transmit place.
+#[derive(Clone, Debug, PartialEq, Eq)]
+pub struct Waiting {
+    pub kind: Kind,
+    /// As in `UnderWay`: a register transfer's are written anew whatever the pool has.
+    pub command: [u8; 2],
     pub write_length: usize,
     pub read_length: usize,
 }
@@ -164,6 +179,7 @@ impl Driver {
             line: Vec::new(),
             reception: Reception::default(),
             under_way: None,
+            waiting: None,
         }
     }
 
@@ -174,7 +190,12 @@ impl Driver {
             .map(|under_way| under_way.what.kind())
     }
 
-    /// Receive buffers in the line, and the one under way.
+    /// Whether no transfer may begin: one is under way, or one waits (request 2026-05).
+    pub fn occupied(&self) -> bool {
+        self.under_way.is_some() || self.waiting.is_some()
+    }
+
+    /// Receive buffers in the line, and the one under way; a waiting one is in the line.
     pub fn receive_buffers(&self) -> usize {
         self.line.len() + usize::from(self.kind() == Some(Kind::FrameRead))
     }
@@ -231,7 +252,7 @@ impl Driver {
             flags.radio_on,
             flags.transmitting,
             flags.receiving,
-            self.under_way.is_some(),
+            self.occupied(),
             flags.interrupt_handling,
             flags.interrupt_pending,
             flags.config_pending,

@@ -7,6 +7,7 @@ mod cases;
 mod chain;
 mod chip;
 mod completion;
+mod declined;
 mod described;
 pub mod driver;
 mod power;

@@ -1,5 +1,5 @@
 //! Which refusal a call gets, if any: document 01's conditions, each call's in its order,
-//! with request 2026-07's for a receive buffer.
+//! with request 2026-07's for a receive buffer and 2026-05's for a decline and a resume.
 
 use super::described::described;
 use super::driver::{Driver, MOST_RECEIVE};
@@ -30,6 +30,8 @@ pub fn answer(driver: &Driver, pool_length: usize, call: &Call) -> Answer {
         Call::Transmit { buffer, length, n } => transmit(driver, *buffer, *length, *n),
         Call::SetReceiveBuffer { buffer, length } => receive_buffer(driver, *buffer, *length),
         Call::ReadWriteDone(arrived) => completion(driver, arrived.len()),
+        Call::Declined => first(&[(driver.under_way.is_none(), Answer::Idle)]),
+        Call::Resume => first(&[(driver.waiting.is_none(), Answer::Nothing)]),
         Call::Start => first(&[(!matches!(driver.state, START | SLEEP), Answer::Already)]),
         Call::Stop => {
             let off = matches!(driver.state, SLEEP_TRX_OFF | SLEEP);
@@ -46,12 +48,14 @@ pub fn answer(driver: &Driver, pool_length: usize, call: &Call) -> Answer {
     }
 }
 
-/// Whether 12 guards the call: the six that are lent the pool.
+/// Whether 12 guards the call: the eight that are lent the pool.
 fn guarded(call: &Call) -> bool {
     matches!(
         call,
         Call::Transmit { .. }
             | Call::ReadWriteDone(_)
+            | Call::Declined
+            | Call::Resume
             | Call::Start
             | Call::Stop
             | Call::ConfigCommit

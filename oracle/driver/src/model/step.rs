@@ -1,5 +1,5 @@
 //! One call's step on a driver: what is altered, and what the call sets going. The starters
-//! of transfers are here: each does nothing where a transfer is under way.
+//! of transfers are here: each does nothing where a transfer is under way or waits.
 
 use super::chip;
 use super::driver::{Driver, Lent, UnderWay, What};
@@ -64,9 +64,13 @@ impl<'a> Step<'a> {
     }
 
     fn register(&mut self, what: What, command: [u8; 2]) {
-        if self.driver.under_way.is_some() {
+        if self.driver.occupied() {
             return;
         }
+        self.offer_register(what, command);
+    }
+
+    pub fn offer_register(&mut self, what: What, command: [u8; 2]) {
         self.driver.own.spi_tx = false;
         self.driver.own.spi_rx = false;
         self.write(SPI_TX, &command);
@@ -75,36 +79,45 @@ impl<'a> Step<'a> {
 
     /// Reads a frame of n bytes into the oldest receive buffer.
     pub fn frame_read(&mut self, n: u8) {
-        if self.driver.under_way.is_some() || self.driver.line.is_empty() {
+        if self.driver.occupied() || self.driver.line.is_empty() {
             return;
         }
-        let lent = self.driver.line.remove(0);
         let write_length = PSDU_OFFSET + usize::from(n);
-        self.driver.own.spi_buf = false;
         self.driver.spi_buf.present = write_length;
+        self.offer_frame_read(write_length);
+    }
+
+    pub fn offer_frame_read(&mut self, write_length: usize) {
+        let lent = self.driver.line.remove(0);
+        self.driver.own.spi_buf = false;
         self.write(SPI_BUF, &[chip::FRAME_READ]);
         self.begin(What::FrameRead(lent), write_length, lent.length);
     }
 
     /// Writes the frame in the transmit buffer.
     pub fn frame_write(&mut self) {
-        if self.driver.under_way.is_some() {
+        if self.driver.occupied() {
             return;
         }
+        let write_length = PSDU_OFFSET + usize::from(self.driver.tx_len);
+        let read_length = self.driver.spi_buf.present;
+        self.offer_frame_write(&[chip::FRAME_WRITE], write_length, read_length);
+    }
+
+    /// `command`: as much of it as is written; the length byte stands there since `transmit`.
+    pub fn offer_frame_write(&mut self, command: &[u8], write_length: usize, read_length: usize) {
         let Some(lent) = self.driver.tx_buf.take() else {
             return;
         };
-        let write_length = PSDU_OFFSET + usize::from(self.driver.tx_len);
         self.driver.own.spi_buf = false;
-        self.write(lent.buffer, &[chip::FRAME_WRITE]);
-        let read_length = self.driver.spi_buf.present;
+        self.write(lent.buffer, command);
         self.begin(What::FrameWrite(lent), write_length, read_length);
     }
 
     /// An interrupt: the read of IRQ_STATUS; in RX reception is turned off first; during a
-    /// transfer it is only remembered.
+    /// transfer, a waiting one too, it is only remembered.
     pub fn handle_interrupt(&mut self) {
-        if self.driver.under_way.is_some() {
+        if self.driver.occupied() {
             self.driver.flags.interrupt_pending = true;
         } else if self.driver.state == RX {
             self.transition_write(chip::TRX_STATE, chip::COMMAND_PLL_ON, RX_TURNING_OFF);
@@ -139,6 +152,7 @@ impl<'a> Step<'a> {
         });
         self.driver.under_way = Some(UnderWay {
             what,
+            command: [self.pool[start], self.pool[start + 1]],
             write_length,
             read_length,
         });

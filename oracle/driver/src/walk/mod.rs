@@ -9,7 +9,8 @@ mod steps;
 
 use std::collections::HashSet;
 
-use crate::line::Line;
+use crate::generator::pairs;
+use crate::line::{Call, Line};
 use crate::performer::{Performer, Stop};
 use crate::session::Session;
 
@@ -33,6 +34,8 @@ pub struct Bounds {
     /// Every status comes with every result, also where the driver looks at one of them
     /// at most.
     pub all_pairs: bool,
+    /// Every completion comes after its transfer was declined and resumed.
+    pub pairs: bool,
 }
 
 /// What a walk has taken so far.
@@ -214,8 +217,19 @@ impl Walk {
         self.perform(Line::Back, batch)
     }
 
-    /// Performs a line on the Rust; inside the domain it becomes part of the script.
+    /// Performs a line on the Rust; inside the domain it becomes part of the script. Where that
+    /// is wished, a completion comes after a pair of `declined` and `resume`.
     fn perform(&mut self, line: Line, batch: &mut Batch) -> Result<(), Stop> {
+        let completes = matches!(line, Line::Call(Call::ReadWriteDone(_)));
+        if self.bounds.pairs && completes && pairs::may_stand(self.session.view()) {
+            for line in pairs::PAIR {
+                self.add(line, batch)?;
+            }
+        }
+        self.add(line, batch)
+    }
+
+    fn add(&mut self, line: Line, batch: &mut Batch) -> Result<(), Stop> {
         let outcome = self.session.perform(&line)?;
         batch.add(line, outcome);
         Ok(())

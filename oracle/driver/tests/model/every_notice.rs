@@ -49,7 +49,7 @@ impl Heard {
 fn every_notice_gives_what_both_length_bytes_said() {
     let mut session = Session::default();
     let mut notices = 0;
-    for seed in 0..200 {
+    for seed in 0..300 {
         let (mut heard, mut mark) = (Heard::default(), Heard::default());
         beyond::script(&mut session, seed, 500, |_, line, outcome| {
             match (line, outcome) {
@@ -79,6 +79,13 @@ fn the_scripts_beyond_the_domain_meet_all_of_it() {
         });
     }
     assert_eq!(tally.receptions.unmet(), [""; 0], "{tally}");
+    assert_eq!(tally.declines.unmet(), [""; 0], "{tally}");
+    // All in which a transfer can be under way.
+    let states: Vec<u8> = tally.declines.states().collect();
+    let all: Vec<u8> = (0..69)
+        .filter(|state| ![59, 62, 66].contains(state))
+        .collect();
+    assert_eq!(states, all, "{tally}");
     let (ended, announced) = tally.receptions.ended();
     assert!(announced * 2 > ended, "{announced} announced of {ended}");
 }

@@ -1,5 +1,5 @@
 //! The end of the transfer under way: an interrupt before it, or the bytes that arrive,
-//! chosen by what the driver makes of them.
+//! chosen by what the driver makes of them; or the SPI layer declines it.
 
 use super::Generator;
 use crate::action::Kind;
@@ -14,7 +14,23 @@ const INSIDE: [u8; 5] = [11, 12, 40, 126, 127];
 const OUTSIDE: [u8; 7] = [0, 1, 2, 10, 128, 129, 255];
 
 impl Generator<'_> {
-    pub fn completion(&mut self) -> Line {
+    pub fn end(&mut self) -> Line {
+        match self.random.percent(self.declining()) {
+            true => Line::Call(Call::Declined),
+            false => self.completion(),
+        }
+    }
+
+    /// How many times in a hundred the transfer is declined: more often in states that are met
+    /// seldom, so that it happens in each.
+    fn declining(&self) -> u64 {
+        match self.driver().state {
+            28 | 30 | 31 | 34 | 35 | 42 | 44 | 61 | 64 => self.stretch.declining + 6,
+            _ => self.stretch.declining,
+        }
+    }
+
+    fn completion(&mut self) -> Line {
         if self.random.percent(self.interruption()) {
             return Line::Call(Call::Fired);
         }
@@ -51,7 +67,13 @@ impl Generator<'_> {
             _ if handling => (self.status_at(state), self.interrupts(state)),
             _ => (self.status_at(state), self.random.byte()),
         };
-        bytes::arrived(&mut self.random, status, result, under_way.shorter_length())
+        let reads = under_way.what.kind() == Kind::FrameRead;
+        // The other bytes of the buffer are then those that stood there.
+        let most = match reads && self.random.percent(20) {
+            true => 2,
+            false => under_way.shorter_length(),
+        };
+        bytes::arrived(&mut self.random, status, result, most)
     }
 
     /// A status that lets the state's case go on when things go well.

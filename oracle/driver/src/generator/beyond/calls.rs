@@ -22,8 +22,11 @@ pub enum Proposal {
     Query,
     /// A call that is made in order to be refused.
     Refused,
-    /// Bytes of the pool altered from outside.
+    /// Bytes of the pool altered from outside; those that a command stands in.
     OutsideBytes,
+    CommandBytes,
+    /// A buffer of a waiting transfer offered again.
+    WaitingBuffer,
 }
 
 /// Lengths of a receive buffer about which something is decided.
@@ -52,6 +55,8 @@ impl Generator<'_> {
             Proposal::Query => plain::query(&mut self.random),
             Proposal::Refused => return self.refused(),
             Proposal::OutsideBytes => return self.outside_bytes(),
+            Proposal::CommandBytes => return self.command_bytes(),
+            Proposal::WaitingBuffer => return self.waiting_buffer(),
         })
     }
 
@@ -96,8 +101,18 @@ impl Generator<'_> {
         self.plan(lines)
     }
 
+    /// The buffer of the last received frame is sent as it is, whole: whatever altered a byte of
+    /// it shows.
+    fn send_on(&self, buffer: u64) -> Line {
+        let (length, n) = (BUFFER as u64, 125);
+        Line::Call(Call::Transmit { buffer, length, n })
+    }
+
     /// A transmit that fits, often with its frame written into the buffer just before.
     fn send(&mut self) -> Line {
+        if let Some(buffer) = self.received.filter(|_| self.random.percent(25)) {
+            return self.send_on(buffer as u64);
+        }
         let n = match self.random.percent(50) {
             true => self.random.pick(&SEND_LENGTHS),
             false => self.random.within(0, 125),

@@ -1,18 +1,23 @@
 //! Makes scripts that leave the domain of the comparison with the Rust wherever documents
 //! 01 and 02 go on: several receive buffers, refused calls of every kind, pool bytes altered
-//! from outside. It runs the model beside itself and chooses each line by where the driver
+//! from outside, declined transfers. It runs the model beside itself and chooses each line by where the driver
 //! stands.
 
 mod around;
 mod arrived;
 mod calls;
+mod declines;
+mod group;
+mod pool_bytes;
 mod receptions;
 mod refused;
 mod stretch;
 mod tally;
+mod waiting;
 
 use std::collections::VecDeque;
 
+use crate::action::Action;
 use crate::line::{Call, Line};
 use crate::model::Session;
 use crate::model::driver::Driver;
@@ -37,6 +42,7 @@ pub fn script(
         stretch: Stretch::any(&mut random),
         random,
         planned: VecDeque::new(),
+        received: None,
     };
     generator.settle();
     let mut script = Vec::with_capacity(lines);
@@ -46,6 +52,7 @@ pub fn script(
         let outcome = generator.session.perform(&line);
         let outcome = outcome.expect("the model performs every line");
         watch(&before, &line, outcome.as_ref());
+        generator.hear(outcome.as_ref());
         script.push(line);
     }
     script
@@ -57,11 +64,22 @@ struct Generator<'a> {
     stretch: Stretch,
     /// Lines that are to come next.
     planned: VecDeque<Line>,
+    /// The buffer of the last received frame.
+    received: Option<usize>,
 }
 
 impl Generator<'_> {
     fn driver(&self) -> &Driver {
         &self.session.now().driver
+    }
+
+    /// Takes note of a received frame.
+    fn hear(&mut self, outcome: Option<&Outcome>) {
+        for action in outcome.map_or(&[] as &[Action], |outcome| &outcome.actions) {
+            if let Action::Received { buffer, .. } = *action {
+                self.received = Some(buffer);
+            }
+        }
     }
 
     fn next(&mut self) -> Line {
@@ -82,8 +100,11 @@ impl Generator<'_> {
 
     /// The next line of what is going on.
     fn advance(&mut self) -> Line {
+        if self.driver().waiting.is_some() {
+            return self.while_one_waits();
+        }
         if self.driver().under_way.is_some() {
-            return self.completion();
+            return self.end();
         }
         let (state, none) = (self.driver().state, self.driver().line.is_empty());
         match state {

@@ -3,6 +3,7 @@
 
 use std::fmt;
 
+use super::group::{self, Group};
 use crate::action::Action;
 use crate::answer::Answer;
 use crate::line::{Call, Line};
@@ -38,9 +39,6 @@ pub struct Receptions {
     /// The buffer that the last reception left in front because it was spoiled.
     left: Option<usize>,
 }
-
-/// What is counted under one heading: each sort and how often it was met.
-pub type Group = (&'static str, Vec<(String, u64)>);
 
 impl Receptions {
     /// Takes note of one line.
@@ -127,12 +125,7 @@ impl Receptions {
 
     /// What was not met.
     pub fn unmet(&self) -> Vec<String> {
-        let groups = self.groups().into_iter();
-        let sorts = groups.flat_map(|(heading, sorts)| {
-            let unmet = sorts.into_iter().filter(|(_, count)| *count == 0);
-            unmet.map(move |(name, _)| format!("{heading}: {name}"))
-        });
-        sorts.collect()
+        group::unmet(self.groups())
     }
 
     /// How many receptions have ended, and how many of them were announced.
@@ -171,12 +164,6 @@ impl fmt::Display for Receptions {
             "{ended} receptions ended, {received} of them announced, {turned} turned to the \
              end of the line, {spoiled} spoiled"
         )?;
-        for (heading, sorts) in self.groups() {
-            write!(f, "; {heading}")?;
-            for (name, count) in sorts {
-                write!(f, " {name} ({count})")?;
-            }
-        }
-        Ok(())
+        group::shown(f, self.groups())
     }
 }

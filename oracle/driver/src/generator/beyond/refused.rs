@@ -23,9 +23,11 @@ impl Generator<'_> {
         Line::Call(match self.random.within(0, 99) {
             0..24 => self.refused_transmit(),
             24..44 => self.refused_lend(),
-            44..58 => self.refused_completion(),
-            58..64 => Call::Start,
-            64..70 => Call::Stop,
+            44..54 => self.refused_completion(),
+            54..57 => Call::Declined,
+            57..60 => Call::Resume,
+            60..65 => Call::Start,
+            65..70 => Call::Stop,
             70..76 => Call::Reset { configured: false },
             76..80 => self.refused_setting(),
             80..82 => self.refused_new(),
@@ -162,7 +164,7 @@ impl Generator<'_> {
     }
 
     fn any_call(&mut self) -> Call {
-        match self.random.within(0, 11) {
+        match self.random.within(0, 14) {
             0 => Call::Start,
             1 => Call::Stop,
             2 => Call::ConfigCommit,
@@ -176,6 +178,8 @@ impl Generator<'_> {
                 configured: self.random.percent(50),
             },
             10 => plain::setting(&mut self.random),
+            11 | 12 => Call::Declined,
+            13 => Call::Resume,
             _ => plain::query(&mut self.random),
         }
     }

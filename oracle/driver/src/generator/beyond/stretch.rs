@@ -17,6 +17,10 @@ pub struct Stretch {
     pub faithful: u64,
     /// That an interrupt comes before a transfer ends.
     pub interruption: u64,
+    /// That a transfer is declined before it ends.
+    pub declining: u64,
+    /// That another line comes before a declined transfer is resumed.
+    pub patience: u64,
     /// What is begun in READY while nothing is going on.
     pub beginnings: Weighted,
 }
@@ -28,6 +32,8 @@ impl Stretch {
             smooth: random.pick(&[50, 75, 90, 97]),
             faithful: random.pick(&[65, 85, 95]),
             interruption: random.pick(&[0, 2, 8, 25]),
+            declining: random.pick(&[0, 0, 2, 5, 12, 30]),
+            patience: random.pick(&[15, 45, 65, 80]),
             beginnings: random.pick(&[RECEIVING, RECEIVING, SENDING, MIXED]),
         }
     }
