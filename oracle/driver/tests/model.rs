@@ -1,7 +1,7 @@
 //! The model by itself: along scripts inside the domain every refused call is tried at every
 //! line; the edges of the refusals; the line of receive buffers of request 2026-07; the
-//! received length of request 2026-13; the declined transfers of request 2026-05; and what holds of every run, however far it leaves the
-//! domain.
+//! received length of request 2026-13; the declined transfers of request 2026-05; and what
+//! holds of every run, however far it leaves the domain.
 
 #[path = "model/declined.rs"]
 mod declined;
@@ -214,6 +214,16 @@ fn answered(script: &str) -> (Vec<u8>, String) {
         calls.map(|line| answer(line).expect("a number")).collect(),
         output,
     )
+}
+
+/// What the calls of a script yield after those before it, each line as `short` has it.
+fn yielded(before: &str, script: &str, short: fn(&str) -> String) -> Vec<String> {
+    let (answers, _) = answered(before);
+    let (_, output) = answered(&format!("{before}{script}"));
+    let first = format!("{} ", answers.len());
+    let lines = output.lines().skip_while(|line| !line.starts_with(&first));
+    let lines = lines.take_while(|line| !line.starts_with("book"));
+    lines.map(short).collect()
 }
 
 /// The answer to the last call of a script.

@@ -6,16 +6,11 @@ use oracle::run::run;
 use oracle::trace::reader::{blocks, read};
 use oracle::trace::run::traced;
 
-use super::{READY, answered, last, lent};
+use super::{READY, answered, last, lent, yielded};
 
 /// What the calls of a script yield after those before it, without their places.
 fn told(before: &str, script: &str) -> Vec<String> {
-    let (answers, _) = answered(before);
-    let (_, output) = answered(&format!("{before}{script}"));
-    let first = format!("{} ", answers.len());
-    let lines = output.lines().skip_while(|line| !line.starts_with(&first));
-    let lines = lines.take_while(|line| !line.starts_with("book"));
-    lines.map(without_place).collect()
+    yielded(before, script, without_place)
 }
 
 fn without_place(line: &str) -> String {

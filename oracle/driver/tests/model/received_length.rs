@@ -6,7 +6,7 @@ use oracle::run::run;
 use oracle::trace::reader::{blocks, read};
 use oracle::trace::run::traced;
 
-use super::{READY, answered, frame, lent, received};
+use super::{READY, answered, frame, lent, received, yielded};
 
 /// From READY to the length read, whose end is next.
 const READING: &str = "fired\nread_write_done 0 12\n";
@@ -23,12 +23,7 @@ fn reading_out(length: u8) -> String {
 /// What the calls of a script yield after those before it: answer and states, the transfer
 /// up to its first byte, the actions.
 fn told(before: &str, script: &str) -> Vec<String> {
-    let (answers, _) = answered(before);
-    let (_, output) = answered(&format!("{before}{script}"));
-    let first = format!("{} ", answers.len());
-    let lines = output.lines().skip_while(|line| !line.starts_with(&first));
-    let lines = lines.take_while(|line| !line.starts_with("book"));
-    lines.map(shortened).collect()
+    yielded(before, script, shortened)
 }
 
 fn shortened(line: &str) -> String {
