@@ -105,6 +105,10 @@ pub apply : (a b : Bool) → T (imp a b) → T a → T b
 apply true b i t = i
 apply false b i t = absurd t
 
+pub applied : (a b : Bool) → (T a → T b) → T (imp a b)
+applied true b f = f tt
+applied false b f = tt
+
 -- a test over both Booleans
 abbrev pub all : (Bool → Bool) → Bool
 all f = f true && f false

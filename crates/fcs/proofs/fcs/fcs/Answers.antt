@@ -1,12 +1,11 @@
 -- `fcs::fcs::fcs` meets its contract: after the blocks, and then after the words, the register is that after the bytes in them.
 -- Assumes nothing.
-use Rattle.std.proofs.Common.{rules, ◌≡◌, ℕ, ◌/◌, length, refl, sym, ap, ◌∙◌}
+use Rattle.std.proofs.Common.{rules, ◌≡◌, ℕ, ◌/◌, length, refl, ap, ◌∙◌}
 use Rattle.std.specs.List.{fold}
 use Rattle.std.proofs.lemmas.Fn.{fold_over, slice_gives, fronts}
-use Rattle.fcs.specs.Fcs.{byte_step, fcs_from, fcs_of}
+use Rattle.fcs.specs.Fcs.{fcs_from, fcs_of}
 use Rattle.fcs.specs.Word.{reduced, four}
 use Rattle.fcs.proofs.Bytes.{no_bytes, part_more, then_rest}
-use Rattle.fcs.proofs.Register.{from_is_fold}
 use Rattle.fcs.proofs.fcs.fcs.Goals as goal
 
 pub returns : goal.returns
@@ -23,10 +22,8 @@ returns c =
     fold_over fronts (λ y. y.now) _ (λ ys y. reduced 64 y ≡ fold fcs_from (reduced 64 c.one_word.result) ys) _
     (λ ys a x b q j k. let e = part_more (reduced 64 c.one_word.result) (reduced 64 a) (reduced 64 b) ys x.now j in search rules)
     _ _ _ _ (slice_gives c.iter-2.result) refl c.fold-word.ensures.ran in
-    let last : c.fold.result ≡ fold byte_step c.register.result c.iter-3.result.rest.now = search rules in
-    last
-    ∙ sym (from_is_fold c.register.result c.iter-3.result.rest.now)
-    ∙ ap (λ (r : ℕ). fcs_from r c.iter-3.result.rest.now) c.register.ensures
-    ∙ then_rest 8 (length tail / 8) _ _ tail words (c.iter-2.ensures.rest ∙ c.as_chunks-2.ensures.front) (c.iter-3.ensures.rest ∙ c.as_chunks-2.ensures.back)
+    c.rest_steps.ensures
+    ∙ ap (λ (r : ℕ). fcs_from r c.as_chunks-2.result.1.now) c.register.ensures
+    ∙ then_rest 8 (length tail / 8) _ _ tail words (c.iter-2.ensures.rest ∙ c.as_chunks-2.ensures.front) c.as_chunks-2.ensures.back
     ∙ ap (λ (r : ℕ). fcs_from r tail) c.one_word.ensures
     ∙ then_rest 32 (length bytes / 32) 0 _ bytes blocks (c.iter.ensures.rest ∙ c.as_chunks.ensures.front) c.as_chunks.ensures.back
