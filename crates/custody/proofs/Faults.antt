@@ -13,7 +13,7 @@ use Rattle.rf233.specs.declared.answer.Answer.{Answer}
 use Rattle.rf233.specs.declared.answer.Answer.TheVariants.{Done, Busy}
 use Rattle.rf233.specs.declared.answer.Reply.{Reply}
 use Rattle.rf233.specs.declared.transfer.Transfer.{Transfer}
-use Rattle.custody.specs.Book.{Page, Fed, new_page, filled, begun, entered}
+use Rattle.custody.specs.Book.{Page, Fed, new_page, filled, entered, entered_by}
 use Rattle.custody.specs.Book.Fed.{lends_transmit, lends_receive, completes, other, declines, resumes}
 
 -- a call as the book is fed it, and its reply
@@ -67,6 +67,11 @@ after (x ∷ more) k = after more (entered x.fed x.reply k)
 abbrev faulty : List Fact → Fact → Bool
 faulty l x = not (after l new_page).fault && (after (x ∷ []) (after l new_page)).fault
 
+-- the same of a last call that starts a transfer of the kind of this number, which no `TransferKind` need have
+abbrev faulty_start : List Fact → ℕ → ℕ → ℕ → Bool
+faulty_start l n w r =
+    not (after l new_page).fault && (entered_by other Done (actions []).items n w r (after l new_page)).fault
+
 pub faults :
     -- a refused call with an action, also where the count leaves it out, or with a transfer
     (faulty [] (refuses (actions (ConfigDone ∷ [])) None) ≡ true)
@@ -100,7 +105,7 @@ pub faults :
     -- a transfer while another is under way
     × (faulty (receives 3 ∷ starts RegisterRead 16 17 ∷ []) (starts FrameRead 18 3) ≡ true)
     -- one of a kind that there is not, ones that name the wrong own buffers, one whose client's buffer is not in its place
-    × (not new_page.fault && (begun 5 16 17 new_page).fault ≡ true)
+    × (faulty_start [] 5 16 17 ≡ true)
     × (faulty [] (starts RegisterRead 17 16) ≡ true)
     × (faulty (receives 3 ∷ []) (starts FrameRead 16 3) ≡ true)
     × (faulty (sends 3 ∷ []) (starts FrameWrite 3 17) ≡ true)

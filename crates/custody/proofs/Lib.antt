@@ -8,6 +8,7 @@ pub mod Undescribed
 pub mod Events
 pub mod Calls
 pub mod NewDriver
+pub mod NumberedLaws
 pub mod OfferSteps
 pub mod ResumedIsDeclined
 pub mod BookOffers

@@ -10,6 +10,7 @@ use Rattle.rf233.specs.Place.{client_place, own_place, transmit_place, receive_p
 use Rattle.rf233.specs.Transfer.{kind_no}
 use Rattle.rf233.specs.declared.action.Action.{Action}
 use Rattle.rf233.specs.declared.action.Action.TheVariants as action
+use Rattle.rf233.specs.declared.answer.Answer.{Answer}
 use Rattle.rf233.specs.declared.answer.Reply.{Reply}
 use Rattle.rf233.specs.declared.transfer.Transfer.{Transfer}
 
@@ -194,13 +195,18 @@ abbrev pub acts : List Action → Bool
 acts [] = false
 acts (x ∷ more) = is_act x || acts more
 
--- refused: nothing changes; an action or a transfer given with it is a fault
-abbrev pub turned_down : Reply → Page → Page
-turned_down y k = record k { fault = k.fault || (acts y.actions.items || nat_lt 0 (kind_no y.transfer)) }
+-- refused: nothing changes; an action among l or a transfer, n the number of its kind, given with it is a fault
+abbrev pub turned_down_by : List Action → ℕ → Page → Page
+turned_down_by l n k = record k { fault = k.fault || (acts l || nat_lt 0 n) }
 
--- a call and what it yielded, entered: the call, its actions, its transfer
+abbrev pub turned_down : Reply → Page → Page
+turned_down y k = turned_down_by y.actions.items (kind_no y.transfer) k
+
+-- a call and what it yielded, entered: the call, its actions, its transfer. The transfer is told by its numbers (n its kind's, 0 none), any
+-- of them, so that one of a kind that there is not can be entered, and is found faulty
+abbrev pub entered_by : Fed → Answer → List Action → ℕ → ℕ → ℕ → Page → Page
+entered_by f a l n w r k = cond (answer_no a == 0) (begun n w r (noted_all l (called f k))) (turned_down_by l n k)
+
+-- a call and a reply of the driver
 unfoldable pub entered : Fed → Reply → Page → Page
-entered f y k =
-    cond (answer_no y.answer == 0)
-    (begun (kind_no y.transfer) (write_no y.transfer) (read_no y.transfer) (noted_all y.actions.items (called f k)))
-    (turned_down y k)
+entered f y k = entered_by f y.answer y.actions.items (kind_no y.transfer) (write_no y.transfer) (read_no y.transfer) k

@@ -1,10 +1,10 @@
 -- The code's book of custody as a page of the definition. Its counts are a machine's: they are given modulo 2 ^ 64.
 use Rattle.std.specs.Prelude.{List, map, ℕ, ◌%◌, ◌^◌}
 use Rattle.rf233.specs.Place.{place_no}
-use Rattle.rf233.specs.Transfer.{kind_no}
 use Rattle.rf233.specs.declared.place.Place.{Place}
-use Rattle.custody.specs.Book.{Page, write_no, read_no, Fed}
+use Rattle.custody.specs.Book.{Page, Fed}
 use Rattle.custody.specs.Book.Fed.{lends_transmit, lends_receive, completes, declines, resumes, other}
+use Rattle.custody.specs.Taken.{taken_kind, taken_write, taken_read}
 use Rattle.custody.specs.declared.book.Book.{Book}
 use Rattle.custody.specs.declared.book.Fed as code
 use Rattle.custody.specs.declared.book.Fed.TheVariants.{LendsTransmit, LendsReceive, Completes, Other, Declines, Resumes}
@@ -22,10 +22,10 @@ abbrev pub page_of : Book → Page
 page_of b =
     wrapped (record {
       places = numbers b.places;
-      kind = kind_no b.under_way;
-      write = write_no b.under_way;
-      read = read_no b.under_way;
-      waits = kind_no b.waiting;
+      kind = taken_kind b.under_way;
+      write = taken_write b.under_way;
+      read = taken_read b.under_way;
+      waits = taken_kind b.waiting;
       accepted = b.accepted;
       handed = b.handed;
       dropped = b.dropped;

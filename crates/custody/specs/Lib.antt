@@ -1,7 +1,9 @@
 pub mod Book
 pub mod Claim
+pub mod Numbered
 pub mod OldestFirst
 pub mod ReceivedLength
 pub mod ResumedIsDeclined
+pub mod Taken
 pub mod Yield
 pub mod BookCode

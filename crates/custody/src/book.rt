@@ -2,8 +2,6 @@
 ghost use Rattle.std.specs.Prelude.{◌≡◌, ◌≤◌, slice_set};
 ghost use Rattle.custody.specs.Book.{
   new_page,
-  write_no,
-  read_no,
   missing,
   filled,
   room,
@@ -22,28 +20,31 @@ ghost use Rattle.custody.specs.Book.{
   begun,
   is_act,
   acts,
-  turned_down,
+  turned_down_by,
+  entered_by,
   entered,
 };
 ghost use Rattle.custody.specs.Book.Fed.{completes, declines, resumes};
 ghost use Rattle.custody.specs.BookCode.{wrapped, numbers, page_of, fed_of};
+ghost use Rattle.custody.specs.Taken.{kind_number, taken_kind};
 ghost use Rattle.rf233.specs.Place.{place_no};
-ghost use Rattle.rf233.specs.Transfer.{kind_no, kind_value};
 
+use crate::numbered::{NumberedReply, NumberedTransfer};
+use crate::taken::{Kind, Taken};
 use rf233::action::{Action, Actions};
 use rf233::answer::{Answer, Reply};
 use rf233::line::LINE_ROOM;
 use rf233::place::Place;
-use rf233::transfer::{Transfer, TransferKind};
+use rf233::transfer::TransferKind;
 
 // The 19 buffers' places; the transfer under way; the one that waits, of which the kind counts; the counts; whether a fault was found.
-// A contract reads it as a page by `page_of`. No `impl Model`: a page forgets the bytes of the transfer, programs copy the book, and the
-// view of a `Copy` struct may forget nothing.
+// A contract reads it as a page by `page_of`. No `impl Model`: a page forgets the buffers of the one that waits, programs copy the book,
+// and the view of a `Copy` struct may forget nothing.
 #[derive(Clone, Copy)]
 pub struct Book {
     pub places: [Place; 19],
-    pub under_way: Option<Transfer>,
-    pub waiting: Option<Transfer>,
+    pub under_way: Option<Taken>,
+    pub waiting: Option<Taken>,
     pub accepted: u64,
     pub handed: u64,
     pub dropped: u64,
@@ -76,21 +77,21 @@ fn put_at(mut places: [Place; 19], buffer: u8, place: Place) -> [Place; 19]
 // The place that a transfer of a kind takes the buffer from that it sends: transmit for a frame write, else the driver's own. It and the
 // next are two functions, as document 01 has two rules: one for both would take the frame's kind and its place as parameters beside the
 // kind.
-fn write_from(kind: TransferKind) -> Place
-    ensures { place_no result ≡ write_from (kind_value kind) }
+fn write_from(kind: Kind) -> Place
+    ensures { place_no result ≡ write_from (kind_number kind) }
 {
     match kind {
-        TransferKind::FrameWrite => Place::Transmit,
+        Kind::Known(TransferKind::FrameWrite) => Place::Transmit,
         _ => Place::Own,
     }
 }
 
 // The place of the buffer that it reads into: receive for a frame read, else the driver's own.
-fn read_from(kind: TransferKind) -> Place
-    ensures { place_no result ≡ read_from (kind_value kind) }
+fn read_from(kind: Kind) -> Place
+    ensures { place_no result ≡ read_from (kind_number kind) }
 {
     match kind {
-        TransferKind::FrameRead => Place::Receive,
+        Kind::Known(TransferKind::FrameRead) => Place::Receive,
         _ => Place::Own,
     }
 }
@@ -107,12 +108,12 @@ fn room_of(place: Place) -> usize
 }
 
 // It names the right own buffers: 16 and 17 for a register, 18 for a frame.
-fn names_own(t: Transfer) -> bool
-    ensures { result ≡ names_own (kind_value t.kind) t.write t.read }
+fn names_own(t: Taken) -> bool
+    ensures { result ≡ names_own (kind_number t.kind) t.write t.read }
 {
     match t.kind {
-        TransferKind::FrameRead => t.write == 18,
-        TransferKind::FrameWrite => t.read == 18,
+        Kind::Known(TransferKind::FrameRead) => t.write == 18,
+        Kind::Known(TransferKind::FrameWrite) => t.read == 18,
         _ => t.write == 16 && t.read == 17,
     }
 }
@@ -188,8 +189,8 @@ impl Book {
     // The transfer under way ends: its two buffers go back to the places that a transfer of its kind takes them from; and then this one
     // waits. With none under way it cannot.
     #[tactic(auto, unfolding(crate::specs::BookCode::wrapped))]
-    fn end_transfer(self, waiting: Option<Transfer>) -> Book
-        ensures { page_of result ≡ wrapped (ended (kind_no waiting) (page_of self)) }
+    fn end_transfer(self, waiting: Option<Taken>) -> Book
+        ensures { page_of result ≡ wrapped (ended (taken_kind waiting) (page_of self)) }
     {
         match self.under_way {
             None => Book {
@@ -299,10 +300,11 @@ impl Book {
 
     // The transfer takes its two buffers from where they are to be.
     #[tactic(auto, unfolding(crate::specs::BookCode::wrapped))]
-    fn take_buffers(mut self, t: Transfer) -> Book
-        ensures { page_of result ≡ wrapped (taken (kind_value t.kind) t.write t.read (page_of self)) }
+    fn take_buffers(mut self, t: Taken) -> Book
+        ensures { page_of result ≡ wrapped (taken (kind_number t.kind) t.write t.read (page_of self)) }
     {
         self.fault |= self.under_way.is_some() || self.waiting.is_some() || !names_own(t);
+        self.fault |= matches!(t.kind, Kind::Unknown(_));
         self.fault |= self.is_missing(t.write, write_from(t.kind));
         self.fault |= self.is_missing(t.read, read_from(t.kind));
         let sent = put_at(self.places, t.write, Place::Transfer);
@@ -313,30 +315,43 @@ impl Book {
 
     // The transfer that the call starts takes its buffers; none takes nothing.
     #[tactic(auto, using(crate::proofs::BookCounts::twice))]
-    fn enter_transfer(self, transfer: Option<Transfer>) -> Book
-        ensures { page_of result ≡ wrapped (begun (kind_no transfer) (write_no transfer) (read_no transfer) (page_of self)) }
+    fn enter_transfer(self, transfer: NumberedTransfer) -> Book
+        ensures { page_of result ≡ wrapped (begun transfer.kind transfer.write transfer.read (page_of self)) }
     {
-        match transfer {
+        match Kind::of_number(transfer.kind) {
             None => self,
-            Some(t) => self.take_buffers(t),
+            Some(kind) => self.take_buffers(Taken {
+                kind,
+                write: transfer.write,
+                read: transfer.read,
+            }),
         }
     }
 
     // A refused call changes nothing, and comes with nothing.
     #[tactic(auto, unfolding(crate::specs::BookCode::wrapped))]
-    fn turn_down(mut self, reply: Reply) -> Book
-        ensures { page_of result ≡ wrapped (turned_down reply (page_of self)) }
+    fn turn_down(mut self, reply: NumberedReply) -> Book
+        ensures { page_of result ≡ wrapped (turned_down_by reply.actions.items reply.transfer.kind (page_of self)) }
     {
         let acted = any_act(reply.actions);
-        let started = reply.transfer.is_some();
+        let started = reply.transfer.kind != 0;
         self.fault |= acted || started;
         self
     }
 
     // A call and what it yielded: the call itself, its actions, its transfer.
-    #[tactic(auto, using(crate::proofs::BookCounts::after_a_call), unfolding(crate::specs::Book::entered))]
+    #[tactic(auto, using(crate::proofs::NumberedLaws::same_numbers), unfolding(crate::specs::Book::entered))]
     pub fn enter(self, call: Fed, reply: Reply) -> Book
         ensures { page_of result ≡ wrapped (entered (fed_of call) reply (page_of self)) }
+    {
+        self.enter_numbered(call, NumberedReply::from(reply))
+    }
+
+    // The same with the transfer by its numbers: one of a kind that there is not is a fault, and is under way all the same.
+    #[tactic(auto, using(crate::proofs::BookCounts::after_a_call))]
+    pub fn enter_numbered(self, call: Fed, reply: NumberedReply) -> Book
+        ensures { page_of result ≡ wrapped (entered_by (fed_of call) reply.answer reply.actions.items
+            reply.transfer.kind reply.transfer.write reply.transfer.read (page_of self)) }
     {
         if reply.answer == Answer::Done {
             self.enter_call(call)

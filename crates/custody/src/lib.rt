@@ -2,3 +2,5 @@
 #![tactic(auto)]
 
 pub mod book;
+pub mod numbered;
+pub mod taken;

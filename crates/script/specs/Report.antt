@@ -1,5 +1,5 @@
 -- The lines of what a call yields, byte for byte and without the line feed: numbers in decimal, one space between words.
-use Rattle.std.specs.Prelude.{ℕ, Bool, true, false, List, [], ◌++◌, codes, decimal, ◌+◌, ◌*◌, length, cond, leb, slice_range}
+use Rattle.std.specs.Prelude.{ℕ, Bool, true, false, List, [], ◌++◌, codes, decimal, ◌+◌, ◌*◌, length, cond, leb, slice_range, ◌==◌}
 use Rattle.std.specs.Fmt.{signed_decimal}
 use Rattle.std.specs.List.{flat_map}
 use Rattle.rf233.specs.Answer.{answer_no}
@@ -29,14 +29,27 @@ fields_text ns = flat_map field ns
 abbrev pub head_text : Head → List ℕ
 head_text h = decimal h.place ++ (field (answer_no h.answer) ++ (field (state_no h.from) ++ field (state_no h.to)))
 
--- the bytes that the pool has in the buffer that a transfer sends from; none where it ends before the last of them
-abbrev pub sent_bytes : Transfer → List ℕ → List ℕ
-sent_bytes t pool = cond (leb (t.write * 160 + t.write_len) (length pool)) (slice_range pool (t.write * 160) (t.write * 160 + t.write_len)) []
+-- n bytes of the pool from a place; none where it ends before the last of them
+abbrev pub part : ℕ → ℕ → List ℕ → List ℕ
+part start n pool = cond (leb (start + n) (length pool)) (slice_range pool start (start + n)) []
 
--- `transfer KIND WRITE READ BYTE...`
+-- the bytes that the pool has in the buffer that a transfer sends from
+abbrev pub sent_bytes : Transfer → List ℕ → List ℕ
+sent_bytes t pool = part (t.write * 160) t.write_len pool
+
+-- `transfer KIND WRITE READ BYTE...`, of the number of a kind, the two lengths and the bytes sent
+abbrev pub started_text : ℕ → ℕ → ℕ → List ℕ → List ℕ
+started_text kind write_len read_len sent =
+    codes "transfer" ++ (field kind ++ (field write_len ++ (field read_len ++ fields_text sent)))
+
+-- of a transfer of the driver
 abbrev pub transfer_text : Transfer → List ℕ → List ℕ
-transfer_text t pool =
-    codes "transfer" ++ (field (kind_value t.kind) ++ (field t.write_len ++ (field t.read_len ++ fields_text (sent_bytes t pool))))
+transfer_text t pool = started_text (kind_value t.kind) t.write_len t.read_len (sent_bytes t pool)
+
+-- and of one by its numbers, with the buffer that it sends from: of kind 0, none, there is no line
+abbrev pub numbered_text : ℕ → ℕ → ℕ → ℕ → List ℕ → List ℕ
+numbered_text kind write write_len read_len pool =
+    cond (kind == 0) [] (started_text kind write_len read_len (part (write * 160) write_len pool))
 
 -- the line of an action; `Nothing` has none
 abbrev pub action_text : Action → List ℕ

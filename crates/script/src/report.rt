@@ -1,8 +1,19 @@
 // What a call yields, as values that print themselves: its place, answer and states; its transfer; an action; what it returns. Each is a
 // line without its line feed.
-ghost use Rattle.std.specs.Prelude.{◌≡◌, Some};
-ghost use Rattle.script.specs.Report.{action_text, fields_text, flag_text, head_text, sent_bytes, transfer_text, value_text};
+ghost use Rattle.std.specs.Prelude.{◌≡◌, ◌≤◌, ◌*◌, Some};
+ghost use Rattle.script.specs.Report.{
+  action_text,
+  fields_text,
+  flag_text,
+  head_text,
+  numbered_text,
+  part,
+  sent_bytes,
+  transfer_text,
+  value_text,
+};
 
+use itoa::Buffer;
 use rf233::action::Action;
 use rf233::answer::Answer;
 use rf233::state::InternalState;
@@ -21,7 +32,7 @@ impl fmt::Display for Flag {
     }
 }
 
-// Numbers, with a space before each.
+// Numbers, with a space before each. Their digits are laid out by `itoa`: with a `write!` for each a line of them takes a tenth more.
 #[derive(Clone, Copy)]
 pub struct Fields<'a>(pub &'a [u8]);
 
@@ -29,8 +40,10 @@ impl fmt::Display for Fields<'_> {
     ghost output = { λ fields. Some (fields_text fields.0.now) };
 
     fn fmt<W: fmt::Write>(&self, f: &mut fmt::Formatter<W>) -> fmt::Result {
+        let mut digits = Buffer::new();
         for number in self.0 {
-            write!(f, " {number}")?;
+            f.write_str(" ")?;
+            f.write_str(digits.format(*number))?;
         }
         Ok(())
     }
@@ -64,15 +77,23 @@ pub struct Started<'a> {
     pub pool: &'a [u8],
 }
 
+// So many bytes of the pool from a buffer's place; none where it ends before the last of them.
+fn part(pool: &[u8], start: usize, length: u16) -> &[u8]
+    requires { start ≤ 255 * 160 }
+    ensures { result.now ≡ part start length pool.now }
+{
+    let end = start + usize::from(length);
+    let sent = pool.get(start..end);
+    sent.unwrap_or(&[])
+}
+
 impl<'a> Started<'a> {
     // The bytes sent; none where the pool ends before the last of them.
     fn sent(&self) -> &'a [u8]
         ensures { result.now ≡ sent_bytes self.now.transfer self.now.pool.now }
     {
         let start = usize::from(self.transfer.write) * 160;
-        let end = start + usize::from(self.transfer.write_len);
-        let sent = self.pool.get(start..end);
-        sent.unwrap_or(&[])
+        part(self.pool, start, self.transfer.write_len)
     }
 }
 
@@ -88,6 +109,35 @@ impl fmt::Display for Started<'_> {
             t.write_len,
             t.read_len,
             Fields(self.sent())
+        )
+    }
+}
+
+// The same line of a transfer by its numbers, for one of a kind that there is not; of kind 0, which is none, it is empty.
+#[derive(Clone, Copy)]
+pub struct NumberedStarted<'a> {
+    pub kind: u8,
+    pub write: u8,
+    pub write_len: u16,
+    pub read_len: u16,
+    pub pool: &'a [u8],
+}
+
+impl fmt::Display for NumberedStarted<'_> {
+    ghost output = { λ t. Some (numbered_text t.kind t.write t.write_len t.read_len t.pool.now) };
+
+    fn fmt<W: fmt::Write>(&self, f: &mut fmt::Formatter<W>) -> fmt::Result {
+        if self.kind == 0 {
+            return Ok(());
+        }
+        let sent = part(self.pool, usize::from(self.write) * 160, self.write_len);
+        write!(
+            f,
+            "transfer {} {} {}{}",
+            self.kind,
+            self.write_len,
+            self.read_len,
+            Fields(sent)
         )
     }
 }
