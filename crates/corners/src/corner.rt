@@ -1,10 +1,14 @@
 // One corner: its events on a new driver, and what they yield beside what is expected, on one line.
 use crate::yielded::Yielded;
+use arrayvec::ArrayString;
 use rf233::driver::Driver;
 use scenario::events::Events;
-use std::alloc::{AllocError, Global};
-use std::fmt::Write;
-use std::io;
+use std::fmt::Write as _;
+use std::io::Write;
+use std::{fmt, io};
+
+// More than the events of a corner yield.
+type Text = ArrayString<1024>;
 
 // A corner: its name, the events that lead to it, those that are shown, and what these are expected to yield.
 #[derive(Clone, Copy)]
@@ -17,13 +21,13 @@ pub struct Corner {
 
 impl Corner {
     // What the events yield, behind those of the setup, each behind a space.
-    fn yielded(self, alloc: Global) -> Result<String, AllocError> {
+    fn yielded(self) -> Result<Text, fmt::Error> {
         let mut pool = [0u8; 3040];
         let mut driver = Driver::new(129, 26).driver;
         for event in Events(self.setup) {
             driver = event.make(driver, &mut pool).driver;
         }
-        let mut text = String::new(alloc);
+        let mut text = Text::new();
         for event in Events(self.events) {
             let out = event.make(driver, &mut pool);
             driver = out.driver;
@@ -32,15 +36,15 @@ impl Corner {
         Ok(text)
     }
 
-    // The line of the corner: its name, what is expected, what was got, and whether they are the same.
-    pub fn line(self, rt: &impl Print, alloc: Global) -> io::Result<()> {
+    // Writes the line of the corner: its name, what is expected, what was got, and whether they are the same.
+    pub fn write_line(self, to: &mut impl Write) -> io::Result<()> {
         let Corner { name, expected, .. } = self;
-        let got = self.yielded(alloc)?;
+        let got = self.yielded()?;
         let said = if got.strip_prefix(' ') == Some(expected) {
             "same"
         } else {
             "DIFFERENT"
         };
-        println!(rt; "{name} | expected {expected} | got{got} | {said}")
+        writeln!(to, "{name} | expected {expected} | got{got} | {said}")
     }
 }

@@ -23,6 +23,13 @@ impl Entry {
         let setting = power_to_setting(power);
         Entry { power, setting }
     }
+
+    // What line k has, counted from 0.
+    fn at(k: u8) -> Self
+        ensures { result ≡ entry_at k }
+    {
+        Entry::new((i16::from(k) - 128) as i8)
+    }
 }
 
 impl fmt::Display for Entry {
@@ -37,8 +44,8 @@ impl fmt::Display for Entry {
 
 // All 256 lines.
 pub fn write_lines(to: &mut impl Write) -> io::Result<()> {
-    for power in i8::MIN..=i8::MAX {
-        writeln!(to, "{}", Entry::new(power))?;
+    for k in 0..=u8::MAX {
+        writeln!(to, "{}", Entry::at(k))?;
     }
     Ok(())
 }

@@ -3,9 +3,13 @@
 
 mod list;
 
+use arrayvec::ArrayVec;
 use std::io;
-use std::io::{BufWriter, Eprint, Write};
+use std::io::{Eprint, Write};
 use stdio::arguments::{Usage, none_asked};
+
+// More than the list has bytes: it goes out in one write.
+const ROOM: usize = 4096;
 
 // Says on standard error how the program is called.
 fn usage(rt: &impl Eprint) -> io::Result<()> {
@@ -15,15 +19,16 @@ fn usage(rt: &impl Eprint) -> io::Result<()> {
 }
 
 // Writes the list to standard output. Where that fails, `main` ends with the error, and standard error says why.
-fn write_list<W: Write + Drop>(mut to: W) -> io::Result<()> {
-    list::write_lines(&mut to)?;
-    to.flush()
+fn write_list(to: &mut impl Write) -> io::Result<()> {
+    let mut out = ArrayVec::<u8, ROOM>::new();
+    list::write_lines(&mut out)?;
+    to.write_all(out.as_slice())
 }
 
 // Without an argument the list is written.
 fn main(rt: HostRuntime) -> io::Result<()> {
     match none_asked(&rt) {
-        Ok(()) => write_list(BufWriter::new(rt.alloc(), rt.stdout())?),
+        Ok(()) => write_list(&mut rt.stdout()),
         Err(Usage) => usage(&rt),
     }
 }

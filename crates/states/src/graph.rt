@@ -1,10 +1,10 @@
 // The graph, for graphviz: states in six clusters, an arrow for each next state and transfer.
 use crate::columns::Step;
-use crate::same::{cases, exception, general};
+use crate::same::{CONDITIONS, Case, Completions, exception, general};
 use crate::situation::{Call, FIRING, Kind, PLAIN, Situation, calls, interrupts};
 use crate::state::{GROUPS, Group, Numbered, STATES};
+use crate::text::text;
 use rf233::state::InternalState;
-use std::alloc::Global;
 use std::io::Write;
 use std::{fmt, io};
 
@@ -148,13 +148,24 @@ fn write_arrow(to: &mut impl Write, conditions: &str, step: &Step) -> io::Result
     )
 }
 
-// The arrows of the completions of all states: of each case that leads to another state, or starts a transfer.
-fn write_completions(alloc: Global, to: &mut impl Write) -> io::Result<()> {
+// The arrow of a case, where it leads to another state, or starts a transfer.
+fn write_case(to: &mut impl Write, case: Case) -> io::Result<()> {
+    let arrow = case.step.columns.arrow;
+    if arrow.next.is_some() || arrow.deed.is_transfer() {
+        let names = text(&case)?;
+        return write_arrow(to, names.as_str(), case.step);
+    }
+    Ok(())
+}
+
+// The arrows of the completions of all states.
+fn write_completions(to: &mut impl Write) -> io::Result<()> {
     for state in STATES {
-        for case in &cases(alloc, state, |columns| columns.arrow)? {
-            let arrow = case.step.columns.arrow;
-            if arrow.next.is_some() || arrow.deed.is_transfer() {
-                write_arrow(to, case.names.as_str(), &case.step)?;
+        let mut completions = Completions::new();
+        completions.fill(state, |columns| columns.arrow);
+        for place in 0..CONDITIONS {
+            if let Some(case) = completions.case(place) {
+                write_case(to, case)?;
             }
         }
     }
@@ -205,12 +216,12 @@ fn write_events(to: &mut impl Write) -> io::Result<()> {
 }
 
 // The whole graph: its settings, the clusters, the arrows and a line that says what the colours mean.
-pub fn write_graph(alloc: Global, to: &mut impl Write) -> io::Result<()> {
+pub fn write_graph(to: &mut impl Write) -> io::Result<()> {
     writeln!(to, "{HEAD}")?;
     for group in GROUPS {
         write_cluster(to, group)?;
     }
-    write_completions(alloc, to)?;
+    write_completions(to)?;
     write_events(to)?;
     writeln!(to, "{FOOT}")
 }

@@ -11,13 +11,26 @@ mod setup;
 mod situation;
 mod state;
 mod table;
+mod text;
 
+use arrayvec::ArrayVec;
 use std::io;
-use std::io::{BufWriter, Write};
+use std::io::Write;
 use stdio::arguments::asked;
 
 // More than the table or the graph has bytes: either goes out in one write.
-const ROOM: usize = 65536;
+const ROOM: usize = 49152;
+
+// Writes the table or the graph.
+fn write_states(as_graph: bool, to: &mut impl Write) -> io::Result<()> {
+    let mut out = ArrayVec::<u8, ROOM>::new();
+    if as_graph {
+        graph::write_graph(&mut out)?;
+    } else {
+        table::write_table(&mut out)?;
+    }
+    to.write_all(out.as_slice())
+}
 
 // Writes what the arguments ask for to standard output, or says how the program is called.
 fn main(rt: HostRuntime) -> io::Result<()> {
@@ -26,11 +39,5 @@ fn main(rt: HostRuntime) -> io::Result<()> {
             "usage: states [graph]: the driver's states as a table, or as a graph for graphviz",
         );
     };
-    let mut out = BufWriter::with_capacity(rt.alloc(), ROOM, rt.stdout())?;
-    if as_graph {
-        graph::write_graph(rt.alloc(), &mut out)?;
-    } else {
-        table::write_table(rt.alloc(), &mut out)?;
-    }
-    out.flush()
+    write_states(as_graph, &mut rt.stdout())
 }

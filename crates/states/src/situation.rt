@@ -88,6 +88,13 @@ pub struct Situation {
     pub empty_line: bool,
 }
 
+// How many conditions of a completion there are: statuses, with the plain completion, second bytes, and what else may differ.
+pub const STATUSES: usize = 14;
+
+pub const RESULTS: usize = 7;
+
+pub const DIFFERENCES: usize = 18;
+
 // No flag is set. A constant cannot call `Flags::default`.
 const NO_FLAGS: Flags = Flags {
     radio_on: false,
@@ -220,7 +227,7 @@ impl fmt::Display for Situation {
 }
 
 // The plain completion, and each other status. `.ci/states` holds the names to the code's.
-pub fn statuses() -> [Situation; 14] {
+pub fn statuses() -> [Situation; STATUSES] {
     [
         PLAIN,
         Situation::named(Kind::OtherStatus, "other").with(Difference::OtherStatus),
@@ -243,7 +250,7 @@ pub fn statuses() -> [Situation; 14] {
 }
 
 // The second bytes that a step tells apart; 20 is the held length.
-pub fn results() -> [Situation; 7] {
+pub fn results() -> [Situation; RESULTS] {
     [
         Situation::result("10", 10),
         Situation::result("11", 11),
@@ -256,7 +263,7 @@ pub fn results() -> [Situation; 7] {
 }
 
 // What else may differ in a completion: a flag, what is not there, what is kept of a reception.
-pub fn differences() -> [Situation; 18] {
+pub fn differences() -> [Situation; DIFFERENCES] {
     let one = Kind::One;
     let two = Kind::Two;
     [

@@ -1,12 +1,11 @@
 // The table: a line for each state and outcome of a completion; then interrupts, firings and calls, each with what it does in most states
-// and the states where it does something else. The allocator and the writer are passed on as they are: as a struct of the two they would be
-// taken apart again in each function.
+// and the states where it does something else.
 use crate::actions::ActionColumn;
 use crate::columns::Step;
-use crate::same::{cases, exception, general};
+use crate::same::{CONDITIONS, Completions, exception, general};
 use crate::situation::{calls, calls_in_transfer, calls_waiting, interrupts};
 use crate::state::{Numbered, STATES};
-use std::alloc::Global;
+use crate::text::text;
 use std::io;
 use std::io::Write;
 
@@ -48,21 +47,15 @@ fn write_line(to: &mut impl Write, columns: [&str; 6]) -> io::Result<()> {
 }
 
 // A line with what the step did, in this state or these states, in these conditions.
-fn write_step(
-    alloc: Global,
-    to: &mut impl Write,
-    states: &str,
-    conditions: &str,
-    step: &Step,
-) -> io::Result<()> {
+fn write_step(to: &mut impl Write, states: &str, conditions: &str, step: &Step) -> io::Result<()> {
     let arrow = step.columns.arrow;
     let next = match arrow.next {
-        Some(state) => Numbered(state).to_string(alloc)?,
-        None => String::from_str(alloc, "stays")?,
+        Some(state) => text(&Numbered(state))?,
+        None => text(&"stays")?,
     };
-    let deed = arrow.deed.to_string(alloc)?;
-    let flags = step.columns.flags.to_string(alloc)?;
-    let actions = ActionColumn(step.columns.actions).to_string(alloc)?;
+    let deed = text(&arrow.deed)?;
+    let flags = text(&step.columns.flags)?;
+    let actions = text(&ActionColumn(step.columns.actions))?;
     let columns = [
         states,
         conditions,
@@ -75,18 +68,22 @@ fn write_step(
 }
 
 // The lines of the completions of all states.
-fn write_completions(alloc: Global, to: &mut impl Write) -> io::Result<()> {
+fn write_completions(to: &mut impl Write) -> io::Result<()> {
     for state in STATES {
-        let name = Numbered(state).to_string(alloc)?;
-        for case in &cases(alloc, state, |columns| columns)? {
-            write_step(alloc, to, name.as_str(), case.names.as_str(), &case.step)?;
+        let name = text(&Numbered(state))?;
+        let mut completions = Completions::new();
+        completions.fill(state, |columns| columns);
+        for place in 0..CONDITIONS {
+            if let Some(case) = completions.case(place) {
+                write_step(to, name.as_str(), text(&case)?.as_str(), case.step)?;
+            }
         }
     }
     Ok(())
 }
 
 // The lines of interrupts, firings and calls: what each does in most states, where it does something of its own there, and the exceptions.
-fn write_events(alloc: Global, to: &mut impl Write) -> io::Result<()> {
+fn write_events(to: &mut impl Write) -> io::Result<()> {
     for event in interrupts()
         .into_iter()
         .chain(calls())
@@ -94,12 +91,12 @@ fn write_events(alloc: Global, to: &mut impl Write) -> io::Result<()> {
         .chain(calls_waiting())
     {
         if let Some(step) = general(event) {
-            write_step(alloc, to, "every other state", event.name, &step)?;
+            write_step(to, "every other state", event.name, &step)?;
         }
         for state in STATES {
             if let Some(step) = exception(state, event) {
-                let name = Numbered(state).to_string(alloc)?;
-                write_step(alloc, to, name.as_str(), event.name, &step)?;
+                let name = text(&Numbered(state))?;
+                write_step(to, name.as_str(), event.name, &step)?;
             }
         }
     }
@@ -107,11 +104,11 @@ fn write_events(alloc: Global, to: &mut impl Write) -> io::Result<()> {
 }
 
 // The whole table: completions, then interrupts, firings and calls, each part under its text and heading.
-pub fn write_table(alloc: Global, to: &mut impl Write) -> io::Result<()> {
+pub fn write_table(to: &mut impl Write) -> io::Result<()> {
     writeln!(to, "{ABOUT_COMPLETIONS}\n")?;
     write_line(to, HEADING)?;
-    write_completions(alloc, to)?;
+    write_completions(to)?;
     writeln!(to, "\n{ABOUT_EVENTS}\n")?;
     write_line(to, HEADING)?;
-    write_events(alloc, to)
+    write_events(to)
 }
