@@ -3,11 +3,7 @@
 
 use replay_run::replay;
 use std::io;
-use std::io::BufWriter;
 use stdio::arguments::{Usage, asked};
-
-// How many bytes of the output are held before they are written.
-const MUCH: usize = 32768;
 
 // Says on standard error how the program is called.
 fn usage(rt: &impl Eprint) -> io::Result<()> {
@@ -21,6 +17,5 @@ fn main(rt: HostRuntime) -> io::Result<()> {
     let Ok(traced) = asked(&rt, b"trace") else {
         return usage(&rt);
     };
-    let mut to = BufWriter::with_capacity(rt.alloc(), MUCH, rt.stdout())?;
-    replay(&mut rt.stdin(), &mut to, traced)
+    replay(&mut rt.stdin(), &mut rt.stdout(), traced)
 }

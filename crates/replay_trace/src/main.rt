@@ -4,10 +4,8 @@
 
 use replay_run::replay;
 use std::io;
-use std::io::BufWriter;
 
 // Answers the script on standard input with its trace.
 fn main(rt: HostRuntime) -> io::Result<()> {
-    let mut to = BufWriter::new(rt.alloc(), rt.stdout())?;
-    replay(&mut rt.stdin(), &mut to, true)
+    replay(&mut rt.stdin(), &mut rt.stdout(), true)
 }

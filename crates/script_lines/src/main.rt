@@ -3,21 +3,22 @@
 #![tactic(auto)]
 
 mod describe;
+mod input;
 mod lines;
 
+use crate::input::{MOST, fill};
 use crate::lines::write_lines;
 use std::io;
-use std::io::{Read, Write};
+use stdio::streams::{Input, Output};
 
-// The most bytes that are read, and the most that are written.
-const MOST: usize = 65536;
-
-// Reads the input and writes a line for each of its lines. The error of a read that failed is told behind them.
+// Reads the input and writes a line for each of its lines, as far as there is room. The error of a read that failed is told behind them.
 fn main(rt: HostRuntime) -> io::Result<()> {
-    let mut input = Vec::new(rt.alloc());
-    let read = rt.stdin().take(MOST as u64).read_to_end(&mut input);
-    let mut out = Vec::new(rt.alloc());
-    write_lines(&input, &mut out)?;
-    rt.stdout().write_all(&out[..out.len().min(MOST)])?;
-    read.map(|_| ())
+    let mut input = Input::new(rt.stdin());
+    let mut script = [0u8; MOST];
+    let filled = fill(&mut input, &mut script);
+    let mut output = Output::new(rt.stdout());
+    // Where there is no more room the lines end: that is no failure.
+    let _full = write_lines(&script[..filled], &mut output.held);
+    output.write_held()?;
+    input.told()
 }

@@ -1,4 +1,4 @@
-// What the programs do with their arguments and their standard input.
+// What the programs do with their arguments, their standard input and their standard output.
 #![tactic(auto)]
 
 pub mod arguments;

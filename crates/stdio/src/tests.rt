@@ -1,9 +1,10 @@
-// The arguments of runs that no clause can speak of, and an input whose reader fails in the middle.
+// The arguments of runs that no clause can speak of, an input whose reader fails in the middle, and an output at its writers.
 use crate::arguments::{Usage, asked, none_asked};
-use crate::streams::Input;
+use crate::streams::{Input, Output};
+use std::alloc::Global;
 use std::env::{Env, FillError};
 use std::io;
-use std::io::{ErrorKind, Read};
+use std::io::{ErrorKind, Read, Write};
 
 // The first argument of a program, where it has one, and whether there is a second. A first argument may be longer than any buffer.
 #[derive(Drop)]
@@ -119,4 +120,44 @@ fn tells_nothing_where_no_read_failed(rt: HostRuntime) {
     assert_eq!(rt; input.read(&mut piece), 2);
     assert_eq!(rt; input.read(&mut piece), 0);
     assert!(rt; input.told().is_ok());
+}
+
+// How much is written of so much output, where it is much.
+fn written_of(alloc: Global, bytes: &[u8]) -> io::Result<usize> {
+    let mut written = Vec::new(alloc);
+    let mut output = Output::new(&mut written);
+    output.held.write_all(bytes)?;
+    output.write_much()?;
+    Ok(written.len())
+}
+
+#[test]
+fn holds_output_until_there_is_much(rt: HostRuntime) {
+    assert_eq!(rt; written_of(rt.alloc(), &[b'a'; 32768]).ok(), Some(0));
+    assert_eq!(rt; written_of(rt.alloc(), &[b'a'; 32769]).ok(), Some(32769));
+}
+
+// A writer whose writes fail.
+#[derive(Drop)]
+struct Closed;
+
+impl Write for Closed {
+    fn write(&mut self, _bytes: &[u8]) -> io::Result<usize> {
+        Err(io::Error::from(ErrorKind::BrokenPipe))
+    }
+
+    fn flush(&mut self) -> io::Result<()> {
+        Ok(())
+    }
+}
+
+#[test]
+fn holds_nothing_after_a_failed_write(rt: HostRuntime) {
+    let mut output = Output::new(Closed);
+    assert!(rt; output.held.write_all(b"ab").is_ok());
+    assert_eq!(rt;
+        output.write_held().map_err(|e| e.kind()),
+        Err(ErrorKind::BrokenPipe)
+    );
+    assert!(rt; output.write_held().is_ok());
 }

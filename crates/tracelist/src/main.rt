@@ -4,23 +4,22 @@
 mod blocks;
 mod list;
 mod numbers;
+mod parts;
 #[cfg(test)]
 mod tests;
 
 use blocks::{BLOCK, Blocks};
 use list::{Form, Listing};
 use std::io;
-use std::io::{BufReader, BufWriter, Eprint, Read, Write};
+use std::io::{Eprint, Read, Write};
 use stdio::arguments::{Usage, asked};
-
-// How much is read or written at once.
-const AT_ONCE: usize = 65536;
 
 // The whole input, to its last block, which may be cut short. The error of a read that failed comes behind it. A proved loop has to end,
 // and nothing says that the input does: it counts its turns, to a number that no run uses up.
 fn list_all<R: Read + Drop, W: Write + Drop>(form: Form, from: R, to: W) -> io::Result<()> {
     let mut blocks = Blocks::new(from);
-    let mut listing = Listing::begin(form, to)?;
+    let mut listing = Listing::new(form, to);
+    listing.begin()?;
     for _ in 0..u64::MAX {
         let block = blocks.next();
         if !block.is_empty() {
@@ -48,7 +47,5 @@ fn main(rt: HostRuntime) -> io::Result<()> {
         Ok(false) => Form::Numbers,
         Err(Usage) => return usage(&rt),
     };
-    let from = BufReader::with_capacity(rt.alloc(), AT_ONCE, rt.stdin())?;
-    let to = BufWriter::with_capacity(rt.alloc(), AT_ONCE, rt.stdout())?;
-    list_all(form, from, to)
+    list_all(form, rt.stdin(), rt.stdout())
 }
