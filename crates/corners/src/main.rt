@@ -10,7 +10,7 @@ use std::io;
 use std::io::Write;
 
 // More than the lines have bytes: they go out in one write.
-const ROOM: usize = 65536;
+const ROOM: usize = 4096;
 
 // Runs the corners one after another, and writes their lines.
 fn main(rt: HostRuntime) -> io::Result<()> {

@@ -18,8 +18,8 @@ use std::io;
 use std::io::Write;
 use stdio::arguments::asked;
 
-// More than the table or the graph has bytes: either goes out in one write.
-const ROOM: usize = 49152;
+// More than the table or the graph has bytes, and little more: either goes out in one write, and the stack holds it beside a state's steps.
+const ROOM: usize = 41984;
 
 // Writes the table or the graph.
 fn write_states(as_graph: bool, to: &mut impl Write) -> io::Result<()> {
